@@ -1,0 +1,39 @@
+// Words of 32 bits: which may stand in a sequence, and which two match.
+ghost use mathlib.Core.Path.{_≡_};
+ghost use Rattle.symbol.specs.Word.{isCall, isSound, matches};
+ghost use Rattle.symbol.specs.Sequence.{allSound};
+
+// Whether a word is a call.
+pub fn is_call(w: u32) -> bool
+    ensures { λ r. ⌜ r ≡ isCall w ⌝ }
+{
+    0x4000_0000 <= w && w < 0x4001_0000
+}
+
+// Whether a word may stand in a sequence: a call or the no-call.
+pub fn is_sound(w: u32) -> bool
+    ensures { λ r. ⌜ r ≡ isSound w ⌝ }
+{
+    is_call(w) || w == 0x8000_0000
+}
+
+// Whether two words match, for any two words: both are calls with equal codes.
+pub fn words_match(a: u32, b: u32) -> bool
+    ensures { λ r. ⌜ r ≡ matches a b ⌝ }
+{
+    a == b && is_call(a)
+}
+
+// Whether each word may stand in a sequence.
+pub fn all_sound(s: &[u32]) -> bool
+    ensures { λ r. ⌜ r ≡ allSound (now (s .entry)) ⌝ }
+{
+    let mut i = 0;
+    while i < s.len() {
+        if !is_sound(s[i]) {
+            return false;
+        }
+        i += 1;
+    }
+    true
+}
