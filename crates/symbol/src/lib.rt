@@ -3,6 +3,13 @@ ghost use mathlib.Core.Path.{_≡_};
 ghost use Rattle.symbol.specs.Word.{isCall, isSound, matches};
 ghost use Rattle.symbol.specs.Sequence.{allSound};
 
+// The answer of a call that counts what it wrote: a refusal's number and 0, or 0 and the count.
+#[repr(C)]
+pub struct Counted {
+    pub refusal: u32,
+    pub count: u32,
+}
+
 // Whether a word is a call.
 pub fn is_call(w: u32) -> bool
     ensures { λ r. ⌜ r ≡ isCall w ⌝ }

@@ -1,0 +1,53 @@
+-- Laws of a buffer that is written from its start, one word after another.
+-- Assumes nothing.
+use Prim.Native.Nat.{ℕ, zero, suc, _+_, _-_, _≤_, _<_}
+use native.Mathlib.Nat.{add-sub-cancel-left}
+use native.Mathlib.Omega.{arith}
+use native.Mathlib.Numerals.{add-one}
+use mathlib.Core.Path.{_≡_, refl, sym, _∙_, ap}
+use mathlib.Core.List.{List, [], _∷_, _++_, append-assoc}
+use lib.ListN.{length, take, drop, getD, set, length-append, length-drop, length-take, List·getD-append}
+use lib.Seq.{drop-cons, take-suc, take-all, set-at, length-take-le, getD-at}
+use Rattle.buffer.specs.Buffer.{onto, tabulate}
+
+pub length-onto : (front b : List ℕ) → length front ≤ length b → length (onto front b) ≡ length b
+length-onto front b h = simp (length-append, length-drop) (omega arith)
+
+-- One more word after those written.
+pub onto-more : (front b : List ℕ) (v : ℕ) → length front < length b → set (onto front b) (length front) v ≡ onto (front ++ (v ∷ [])) b
+onto-more front b v h =
+    let n : length (front ++ (v ∷ [])) ≡ suc (length front) = simp length-append (add-one (length front)) in
+    rw (drop-cons b (length front) 0 h, set-at front (getD b (length front) 0) (drop (suc (length front)) b) v (length front) refl, n, append-assoc) refl
+
+-- ---- copying: the first i words stand in the buffer
+pub record Copied (words b₀ b : List ℕ) (i : ℕ) : Type 0 where
+  pub within : i ≤ length words
+  pub room : length words ≤ length b₀
+  pub held : b ≡ onto (take i words) b₀
+  pub same : length b ≡ length b₀
+
+pub copied-none : (words b : List ℕ) → length words ≤ length b → Copied words b b 0
+copied-none [] b h = record { within = omega arith; room = h; held = refl; same = refl }
+copied-none (w ∷ words) b h = record { within = omega arith; room = h; held = refl; same = refl }
+
+pub copied-more : (words b₀ b : List ℕ) (i : ℕ) → Copied words b₀ b i → i < length words → Copied words b₀ (set b i (getD words i 0)) (i + 1)
+copied-more words b₀ b i r h =
+    let n : length (take i words) ≡ i = length-take-le i words (omega arith) in
+    let less : length (take i words) < length b₀ = omega (arith, r .room) in
+    let e : set b i (getD words i 0) ≡ onto (take (i + 1) words) b₀ =
+            rw (add-one i, take-suc words i 0 h, ← onto-more (take i words) b₀ (getD words i 0) less, r .held, n) refl in
+    record {
+      within = omega arith;
+      room = r .room;
+      held = e;
+      same = ap length e ∙ length-onto (take (i + 1) words) b₀ (omega (arith, length-take (i + 1) words, r .room))
+    }
+
+pub copied-all : (words b₀ b : List ℕ) (i : ℕ) → Copied words b₀ b i → length words ≤ i → b ≡ onto words b₀
+copied-all words b₀ b i r h = rw (take-all i words h) at (r .held)
+
+-- ---- a list by its entries
+pub length-tabulate : (f : ℕ → ℕ) (n : ℕ) → length (tabulate f n) ≡ n
+unfolding tabulate
+length-tabulate f zero = refl
+length-tabulate f (suc n) = simp (length-append, length-tabulate f n) (add-one n)

@@ -1,0 +1,113 @@
+// Reads and writes records: a header with id and count, a sequence, a trailer with a checksum.
+use symbol::Counted;
+ghost use mathlib.Core.Path.{_≡_};
+ghost use Prim.Native.Nat.{_≤_};
+ghost use lib.ListN.{length};
+ghost use mathlib.Core.List.{_∷_};
+ghost use Rattle.record.specs.Format.{trailer};
+ghost use Rattle.record.specs.Reading.{readRefusal, readAnswer, readBuffer};
+ghost use Rattle.record.specs.Writing.{writeRefusal, writeAnswer, writeBuffer};
+
+// The answer of reading: a refusal's number and zeros, or 0 and what was read.
+#[repr(C)]
+pub struct ReadAnswer {
+    pub refusal: u32,
+    pub id: u32,
+    pub count: u32,
+    pub used: u32,
+}
+
+// The trailer of a header and a sequence.
+fn trailer_of(h: u32, s: &[u32]) -> u32
+    ensures { λ r. ⌜ r ≡ trailer (h ∷ now (s .entry)) ⌝ }
+{
+    let mut sum = h % 0x4000_0000;
+    let mut i = 0;
+    while i < s.len() {
+        sum = (sum + s[i] % 0x4000_0000) % 0x4000_0000;
+        i += 1;
+    }
+    0xC000_0000 + sum
+}
+
+// Why src cannot be read into a buffer of room words; 0 where it can.
+fn read_refusal(src: &[u32], room: usize) -> u32
+    ensures { λ r. ⌜ r ≡ readRefusal (now (src .entry)) room ⌝ }
+{
+    if src.len() == 0 {
+        return 8;
+    }
+    let h = src[0];
+    if h / 0x4000_0000 != 0 {
+        return 9;
+    }
+    let count = (h % 16384) as usize;
+    if 2048 < count {
+        return 9;
+    }
+    if src.len() < count + 2 {
+        return 8;
+    }
+    if !symbol::all_sound(&src[1..count + 1]) {
+        return 2;
+    }
+    if src[count + 1] != trailer_of(h, &src[1..count + 1]) {
+        return 10;
+    }
+    if room < count {
+        return 11;
+    }
+    0
+}
+
+// Reads the record that src starts with and copies its sequence to the start of buffer. Refused: 8 where src ends before
+// the trailer, 9 for a first word that is no header, 2 for an unsound word, 10 for a wrong trailer, 11 where buffer is too
+// short; buffer is then as it was. Words after the trailer are not looked at.
+pub fn read(src: &[u32], buffer: &mut [u32]) -> ReadAnswer
+    ensures { λ r. ⌜ r ≡ readAnswer (now (src .entry)) (length (now (buffer .entry))) ⌝ }
+    ensures { λ r. ⌜ now (buffer .exit) ≡ readBuffer (now (src .entry)) (now (buffer .entry)) ⌝ }
+{
+    let refusal = read_refusal(src, buffer.len());
+    if refusal != 0 {
+        return ReadAnswer { refusal, id: 0, count: 0, used: 0 };
+    }
+    let h = src[0];
+    let count = h % 16384;
+    let n = count as usize;
+    buffer::copy(&src[1..n + 1], buffer);
+    ReadAnswer { refusal: 0, id: h / 16384, count, used: count + 2 }
+}
+
+// Why a sequence cannot be written to a buffer of room words; 0 where it can.
+fn write_refusal(s: &[u32], room: usize) -> u32
+    ensures { λ r. ⌜ r ≡ writeRefusal (now (s .entry)) room ⌝ }
+{
+    if 2048 < s.len() {
+        return 1;
+    }
+    if !symbol::all_sound(s) {
+        return 2;
+    }
+    if room < s.len() + 2 {
+        return 11;
+    }
+    0
+}
+
+// Writes the record of an id and a sequence to the start of buffer and answers how many words it wrote. Refused: 1 for more
+// than 2,048 words, 2 for an unsound word, 11 where buffer is too short; buffer is then as it was.
+pub fn write(id: u16, s: &[u32], buffer: &mut [u32]) -> Counted
+    ensures { λ r. ⌜ r ≡ writeAnswer (now (s .entry)) (length (now (buffer .entry))) ⌝ }
+    ensures { λ r. ⌜ now (buffer .exit) ≡ writeBuffer id (now (s .entry)) (now (buffer .entry)) ⌝ }
+{
+    let refusal = write_refusal(s, buffer.len());
+    if refusal != 0 {
+        return Counted { refusal, count: 0 };
+    }
+    let n = s.len();
+    let h = (id as u32) * 16384 + (n as u32);
+    buffer::put(buffer, 0, h);
+    buffer::copy(s, &mut buffer[1..n + 1]);
+    buffer::put(buffer, n + 1, trailer_of(h, s));
+    Counted { refusal: 0, count: (n as u32) + 2 }
+}

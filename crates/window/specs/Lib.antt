@@ -1,0 +1,2 @@
+pub mod Hash
+pub mod HashList

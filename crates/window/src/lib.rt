@@ -1,0 +1,119 @@
+// The hash of each window of a sequence, by the recurrence of 001.
+use symbol::Counted;
+ghost use mathlib.Core.Path.{_≡_};
+ghost use mathlib.Core.List.{List, [], _∷_, _++_};
+ghost use Prim.Native.Nat.{ℕ, _+_, _*_, _%_, _^_, _≤_, _<_};
+ghost use lib.ListN.{length};
+ghost use Rattle.buffer.specs.Buffer.{onto};
+ghost use Rattle.window.specs.Hash.{hash};
+ghost use Rattle.window.specs.HashList.{windows, hashes, hashRefusal, hashAnswer, hashBuffer};
+
+// a times b, modulo 2^32.
+pub fn wrapping_mul(a: u32, b: u32) -> u32
+    ensures { λ r. ⌜ r ≡ (a * b) % 2 ^ 32 ⌝ }
+{
+    ((a as u64) * (b as u64) % 0x1_0000_0000) as u32
+}
+
+// The e-th power of b, modulo 2^32; 1 for e = 0, whatever b is.
+pub fn power(b: u32, e: usize) -> u32
+    ensures { λ r. ⌜ r ≡ b ^ e % 2 ^ 32 ⌝ }
+{
+    let mut p = 1;
+    let mut i = 0;
+    while i < e {
+        p = wrapping_mul(p, b);
+        i += 1;
+    }
+    p
+}
+
+// The hash of a whole window.
+pub fn hash_of(b: u32, window: &[u32]) -> u32
+    ensures { λ r. ⌜ r ≡ hash b (now (window .entry)) ⌝ }
+{
+    let mut h = 0;
+    let mut i = 0;
+    while i < window.len() {
+        h = std::num::wrapping_add_u32(wrapping_mul(h, b), window[i]);
+        i += 1;
+    }
+    h
+}
+
+// The hash of the window one position on: the outgoing word times the power is taken out, the rest is multiplied by b, and
+// the incoming word is added, each step wrapping at 2^32.
+pub fn roll(h: u32, outgoing: u32, power: u32, b: u32, incoming: u32) -> u32
+    ensures { λ r. ⌜ ((ws : List ℕ) → h ≡ hash b (outgoing ∷ ws) → power ≡ b ^ length ws % 2 ^ 32 → r ≡ hash b (ws ++ (incoming ∷ []))) ⌝ }
+{
+    let rest = std::num::wrapping_sub_u32(h, wrapping_mul(outgoing, power));
+    std::num::wrapping_add_u32(wrapping_mul(rest, b), incoming)
+}
+
+// Fills the start of buffer with the hash at each position where a window of s words fits.
+pub fn fill_hashes(words: &[u32], b: u32, s: usize, buffer: &mut [u32])
+    requires { ⌜ (1 ≤ s) × (windows s (length (now words)) ≤ length (now buffer)) ⌝ }
+    ensures { λ r. ⌜ now (buffer .exit) ≡ onto (hashes b s (now (words .entry))) (now (buffer .entry)) ⌝ }
+{
+    if words.len() < s {
+        return;
+    }
+    let p = power(b, s - 1);
+    let mut h = hash_of(b, &words[0..s]);
+    let mut i = 0;
+    while i + s < words.len() {
+        buffer[i] = h;
+        h = roll(h, words[i], p, b, words[i + s]);
+        i += 1;
+    }
+    buffer::put(buffer, i, h);
+}
+
+// Why no list of hashes can be given; 0 where it can.
+fn hash_refusal(words: &[u32], s: usize, room: usize) -> u32
+    ensures { λ r. ⌜ r ≡ hashRefusal (now (words .entry)) s room ⌝ }
+{
+    if 2048 < words.len() {
+        return 1;
+    }
+    if !symbol::all_sound(words) {
+        return 2;
+    }
+    if s == 0 {
+        return 5;
+    }
+    if 2048 < s {
+        return 5;
+    }
+    if room < words.len() + 1 - s {
+        return 11;
+    }
+    0
+}
+
+// Fills the start of buffer with the hash at each position where a window of s words fits, for multiplier b, and answers how
+// many there are. Refused: 1 for more than 2,048 words, 2 for an unsound word, 5 for a window length outside 1 to 2,048,
+// 11 where buffer is too short; buffer is then as it was.
+pub fn hash_list(words: &[u32], b: u32, s: usize, buffer: &mut [u32]) -> Counted
+    ensures { λ r. ⌜ r ≡ hashAnswer (now (words .entry)) s (length (now (buffer .entry))) ⌝ }
+    ensures { λ r. ⌜ now (buffer .exit) ≡ hashBuffer (now (words .entry)) b s (now (buffer .entry)) ⌝ }
+{
+    let refusal = hash_refusal(words, s, buffer.len());
+    if refusal != 0 {
+        return Counted { refusal, count: 0 };
+    }
+    fill_hashes(words, b, s, buffer);
+    let count = window_count(s, words.len());
+    Counted { refusal: 0, count: count as u32 }
+}
+
+// At how many positions of n words a window of s words fits.
+pub fn window_count(s: usize, n: usize) -> usize
+    requires { ⌜ n < 2 ^ 63 ⌝ }
+    ensures { λ r. ⌜ r ≡ windows s n ⌝ }
+{
+    if n < s {
+        return 0;
+    }
+    n + 1 - s
+}
