@@ -35,12 +35,12 @@ copied-more words b₀ b i r h =
     let n : length (take i words) ≡ i = length-take-le i words (omega arith) in
     let less : length (take i words) < length b₀ = omega (arith, r .room) in
     let e : set b i (getD words i 0) ≡ onto (take (i + 1) words) b₀ =
-            rw (add-one i, take-suc words i 0 h, ← onto-more (take i words) b₀ (getD words i 0) less, r .held, n) refl in
+    rw (add-one i, take-suc words i 0 h, ← onto-more (take i words) b₀ (getD words i 0) less, r .held, n) refl in
     record {
       within = omega arith;
       room = r .room;
       held = e;
-      same = ap length e ∙ length-onto (take (i + 1) words) b₀ (omega (arith, length-take (i + 1) words, r .room))
+      same = ap length e ∙ length-onto (take (i + 1) words) b₀ (omega (arith, length-take (i + 1) words, r .room));
     }
 
 pub copied-all : (words b₀ b : List ℕ) (i : ℕ) → Copied words b₀ b i → length words ≤ i → b ≡ onto words b₀

@@ -46,7 +46,7 @@ readAnswer src room =
       refusal = readRefusal src room;
       id = outcome (readRefusal src room) (idOf (head src)) 0;
       count = outcome (readRefusal src room) (count src) 0;
-      used = outcome (readRefusal src room) (count src + 2) 0
+      used = outcome (readRefusal src room) (count src + 2) 0;
     }
 
 -- "and copies the strand to the start of a lent buffer"

@@ -69,13 +69,23 @@ pub fn read(src: &[u32], buffer: &mut [u32]) -> ReadAnswer
 {
     let refusal = read_refusal(src, buffer.len());
     if refusal != 0 {
-        return ReadAnswer { refusal, id: 0, count: 0, used: 0 };
+        return ReadAnswer {
+            refusal,
+            id: 0,
+            count: 0,
+            used: 0,
+        };
     }
     let h = src[0];
     let count = h % 16384;
     let n = count as usize;
     buffer::copy(&src[1..n + 1], buffer);
-    ReadAnswer { refusal: 0, id: h / 16384, count, used: count + 2 }
+    ReadAnswer {
+        refusal: 0,
+        id: h / 16384,
+        count,
+        used: count + 2,
+    }
 }
 
 // Why a sequence cannot be written to a buffer of room words; 0 where it can.
@@ -109,5 +119,8 @@ pub fn write(id: u16, s: &[u32], buffer: &mut [u32]) -> Counted
     buffer::put(buffer, 0, h);
     buffer::copy(s, &mut buffer[1..n + 1]);
     buffer::put(buffer, n + 1, trailer_of(h, s));
-    Counted { refusal: 0, count: (n as u32) + 2 }
+    Counted {
+        refusal: 0,
+        count: (n as u32) + 2,
+    }
 }

@@ -69,44 +69,6 @@ pub fn fill_hashes(words: &[u32], b: u32, s: usize, buffer: &mut [u32])
     buffer::put(buffer, i, h);
 }
 
-// Why no list of hashes can be given; 0 where it can.
-fn hash_refusal(words: &[u32], s: usize, room: usize) -> u32
-    ensures { λ r. ⌜ r ≡ hashRefusal (now (words .entry)) s room ⌝ }
-{
-    if 2048 < words.len() {
-        return 1;
-    }
-    if !symbol::all_sound(words) {
-        return 2;
-    }
-    if s == 0 {
-        return 5;
-    }
-    if 2048 < s {
-        return 5;
-    }
-    if room < words.len() + 1 - s {
-        return 11;
-    }
-    0
-}
-
-// Fills the start of buffer with the hash at each position where a window of s words fits, for multiplier b, and answers how
-// many there are. Refused: 1 for more than 2,048 words, 2 for an unsound word, 5 for a window length outside 1 to 2,048,
-// 11 where buffer is too short; buffer is then as it was.
-pub fn hash_list(words: &[u32], b: u32, s: usize, buffer: &mut [u32]) -> Counted
-    ensures { λ r. ⌜ r ≡ hashAnswer (now (words .entry)) s (length (now (buffer .entry))) ⌝ }
-    ensures { λ r. ⌜ now (buffer .exit) ≡ hashBuffer (now (words .entry)) b s (now (buffer .entry)) ⌝ }
-{
-    let refusal = hash_refusal(words, s, buffer.len());
-    if refusal != 0 {
-        return Counted { refusal, count: 0 };
-    }
-    fill_hashes(words, b, s, buffer);
-    let count = window_count(s, words.len());
-    Counted { refusal: 0, count: count as u32 }
-}
-
 // At how many positions of n words a window of s words fits.
 pub fn window_count(s: usize, n: usize) -> usize
     requires { ⌜ n < 2 ^ 63 ⌝ }
@@ -116,4 +78,45 @@ pub fn window_count(s: usize, n: usize) -> usize
         return 0;
     }
     n + 1 - s
+}
+
+// Why no list of hashes can be given; 0 where it can.
+fn hash_refusal(words: &[u32], window: u32, room: usize) -> u32
+    ensures { λ r. ⌜ r ≡ hashRefusal (now (words .entry)) window room ⌝ }
+{
+    if 2048 < words.len() {
+        return 1;
+    }
+    if !symbol::all_sound(words) {
+        return 2;
+    }
+    if window == 0 {
+        return 5;
+    }
+    if 2048 < window {
+        return 5;
+    }
+    if room < window_count(window as usize, words.len()) {
+        return 11;
+    }
+    0
+}
+
+// Fills the start of buffer with the hash at each position where a window of the given length fits, for multiplier b, and
+// answers how many there are. Refused: 1 for more than 2,048 words, 2 for an unsound word, 5 for a length outside 1 to
+// 2,048, 11 where buffer is too short; buffer is then as it was.
+pub fn hash_list(words: &[u32], b: u32, window: u32, buffer: &mut [u32]) -> Counted
+    ensures { λ r. ⌜ r ≡ hashAnswer (now (words .entry)) window (length (now (buffer .entry))) ⌝ }
+    ensures { λ r. ⌜ now (buffer .exit) ≡ hashBuffer (now (words .entry)) b window (now (buffer .entry)) ⌝ }
+{
+    let refusal = hash_refusal(words, window, buffer.len());
+    if refusal != 0 {
+        return Counted { refusal, count: 0 };
+    }
+    let s = window as usize;
+    fill_hashes(words, b, s, buffer);
+    Counted {
+        refusal: 0,
+        count: window_count(s, words.len()) as u32,
+    }
 }

@@ -1,0 +1,59 @@
+// The functions that Rust and C call. A slice is passed as a pointer and then a length. Each only hands on to the crate that
+// has the work, and none asks anything of its caller: what cannot be done is refused by its number.
+use record::ReadAnswer;
+use symbol::Counted;
+ghost use mathlib.Core.Path.{_≡_};
+ghost use lib.ListN.{length};
+ghost use Rattle.symbol.specs.Word.{matches};
+ghost use Rattle.symbol.specs.Sequence.{allSound};
+ghost use Rattle.record.specs.Reading.{readAnswer, readBuffer};
+ghost use Rattle.record.specs.Writing.{writeAnswer, writeBuffer};
+ghost use Rattle.window.specs.HashList.{hashAnswer, hashBuffer};
+
+// Whether two words match: both are calls with equal codes.
+#[no_mangle]
+pub extern "C" fn sigxume_match(a: u32, b: u32) -> bool
+    ensures { λ r. ⌜ r ≡ matches a b ⌝ }
+{
+    symbol::words_match(a, b)
+}
+
+// Whether each word is a call or the no-call.
+#[no_mangle]
+pub extern "C" fn sigxume_sound(words: &[u32]) -> bool
+    ensures { λ r. ⌜ r ≡ allSound (now (words .entry)) ⌝ }
+{
+    symbol::all_sound(words)
+}
+
+// Reads the record that src starts with; its sequence goes to the start of buffer. Refused: 8, 9, 2, 10, 11.
+#[no_mangle]
+pub extern "C" fn sigxume_read(src: &[u32], buffer: &mut [u32]) -> ReadAnswer
+    ensures { λ r. ⌜ r ≡ readAnswer (now (src .entry)) (length (now (buffer .entry))) ⌝ }
+    ensures { λ r. ⌜ now (buffer .exit) ≡ readBuffer (now (src .entry)) (now (buffer .entry)) ⌝ }
+{
+    record::read(src, buffer)
+}
+
+// Writes the record of an id and a sequence to the start of buffer. Refused: 1, 2, 11.
+#[no_mangle]
+pub extern "C" fn sigxume_write(id: u16, sequence: &[u32], buffer: &mut [u32]) -> Counted
+    ensures { λ r. ⌜ r ≡ writeAnswer (now (sequence .entry)) (length (now (buffer .entry))) ⌝ }
+    ensures { λ r. ⌜ now (buffer .exit) ≡ writeBuffer id (now (sequence .entry)) (now (buffer .entry)) ⌝ }
+{
+    record::write(id, sequence, buffer)
+}
+
+// Fills the start of buffer with the hash of each window, for a multiplier and a window length. Refused: 1, 2, 5, 11.
+#[no_mangle]
+pub extern "C" fn sigxume_hash_list(
+    words: &[u32],
+    multiplier: u32,
+    window: u32,
+    buffer: &mut [u32],
+) -> Counted
+    ensures { λ r. ⌜ r ≡ hashAnswer (now (words .entry)) window (length (now (buffer .entry))) ⌝ }
+    ensures { λ r. ⌜ now (buffer .exit) ≡ hashBuffer (now (words .entry)) multiplier window (now (buffer .entry)) ⌝ }
+{
+    window::hash_list(words, multiplier, window, buffer)
+}
