@@ -1,0 +1,45 @@
+-- Why a comparison is refused. "Comparing checks 1 to 7 in that order." The plain engine has no settings, so no 4 and 5.
+use Prim.Native.Nat.{ℕ, _+_, _*_, _/_, min}
+use mathlib.Core.Bool.{not}
+use mathlib.Core.List.{List}
+use lib.Dec.{eqb, ltb}
+use lib.ListN.{length}
+use Rattle.symbol.specs.Sequence.{allSound, tooLong}
+use Rattle.symbol.specs.Refusal.{refuse}
+
+-- 1: "A strand has more than 2,048 words"; 2: "A strand word is neither call nor no-call".
+abbrev pub sequences : List ℕ → List ℕ → ℕ → ℕ
+sequences first second later =
+    refuse (tooLong first) 1
+    (refuse (tooLong second) 1
+    (refuse (not (allSound first)) 2
+    (refuse (not (allSound second)) 2 later)))
+
+-- 3: "Minimum not 1 to 256".
+abbrev pub minimums : ℕ → ℕ → ℕ
+minimums minimum later = refuse (eqb minimum 0) 3 (refuse (ltb 256 minimum) 3 later)
+
+-- 4: "Bucket count not 1 to 1,024"; 5: "First search length below the minimum or above 2,048".
+abbrev pub settings : ℕ → ℕ → ℕ → ℕ → ℕ
+settings minimum buckets start later =
+    refuse (eqb buckets 0) 4
+    (refuse (ltb 1024 buckets) 4
+    (refuse (ltb start minimum) 5
+    (refuse (ltb 2048 start) 5 later)))
+
+-- 6: "Workspace below 4 × (sum of lengths) words"; 7: "Tile buffer below 3 × (shorter length divided by minimum, rounded
+-- down) words".
+abbrev pub room : List ℕ → List ℕ → ℕ → ℕ → ℕ → ℕ → ℕ
+room first second minimum workspace tiles later =
+    refuse (ltb workspace (4 * (length first + length second))) 6
+    (refuse (ltb tiles (3 * (min (length first) (length second) / minimum))) 7 later)
+
+-- The sequences, the minimum, and how many words the workspace and the tile buffer have.
+abbrev pub plainRefusal : List ℕ → List ℕ → ℕ → ℕ → ℕ → ℕ
+plainRefusal first second minimum workspace tiles =
+    sequences first second (minimums minimum (room first second minimum workspace tiles 0))
+
+-- The same with the search's bucket count and first search length. Any multiplier will do.
+abbrev pub fastRefusal : List ℕ → List ℕ → ℕ → ℕ → ℕ → ℕ → ℕ → ℕ
+fastRefusal first second minimum buckets start workspace tiles =
+    sequences first second (minimums minimum (settings minimum buckets start (room first second minimum workspace tiles 0)))

@@ -1,0 +1,19 @@
+-- The greedy choice, over any state: what is best in a state, how long that is, and the state after laying it.
+use Prim.Native.Nat.{ℕ, zero, suc}
+use mathlib.Core.Bool.{true, false}
+use mathlib.Core.List.{List, [], _∷_}
+use lib.Dec.{leb, ltb}
+
+-- The first of the numbers below n at which f is greatest; 0 where there are none.
+unfoldable pub peak : (ℕ → ℕ) → ℕ → ℕ
+peak f zero = 0
+peak f (suc n) = let b = peak f n in elim (ltb (f b) (f n)) [ true ↦ n | false ↦ b ]
+
+-- Takes the best while its length is at least the minimum, lays it and goes on, as far as the fuel goes.
+-- "Among runs of at least the minimum length take the longest .. It becomes a tile .. Repeat until there is none."
+module _ {S K : Type 0} (best : S → K) (size : K → ℕ) (lay : S → K → S) where
+  unfoldable pub greedy : ℕ → ℕ → S → List K
+  greedy zero minimum s = []
+  greedy (suc fuel) minimum s =
+      elim (leb minimum (size (best s)))
+      [ true ↦ best s ∷ greedy fuel minimum (lay s (best s)) | false ↦ [] ]

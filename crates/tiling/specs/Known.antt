@@ -1,0 +1,68 @@
+-- The pairs K1 to K11 and the windows K12 of 01 as one list of cases, and the test that each comes out as written.
+use Prim.Native.Nat.{ℕ, _+_, _^_}
+use mathlib.Core.Bool.{Bool, true, false, _&&_}
+use mathlib.Core.List.{List, [], _∷_, _++_}
+use lib.Dec.{eqb}
+use lib.ListN.{length}
+use Rattle.tiling.specs.Listing.{listing, tileWords, covered, score}
+
+-- "Writing a to d for calls of codes 1 to 4 .. e is code 5, ? a no-call."
+abbrev pub a : ℕ
+a = 2 ^ 30 + 1
+
+abbrev pub b : ℕ
+b = 2 ^ 30 + 2
+
+abbrev pub c : ℕ
+c = 2 ^ 30 + 3
+
+abbrev pub d : ℕ
+d = 2 ^ 30 + 4
+
+abbrev pub e : ℕ
+e = 2 ^ 30 + 5
+
+abbrev pub no-call : ℕ
+no-call = 2 ^ 31
+
+-- A pair with its minimum: the words of its tile buffer, covered and score.
+pub data Case : Type 0 where
+  pair : (first second : List ℕ) (minimum : ℕ) (tiles : List ℕ) (covered score : ℕ) → Case
+
+unfoldable pub same : List ℕ → List ℕ → Bool
+same [] [] = true
+same [] (y ∷ ys) = false
+same (x ∷ xs) [] = false
+same (x ∷ xs) (y ∷ ys) = eqb x y && same xs ys
+
+unfoldable pub holds : Case → Bool
+holds (pair first second minimum tiles sum points) =
+    same (tileWords (listing first second minimum)) tiles
+    && (eqb (covered (listing first second minimum)) sum
+    && eqb (score (covered (listing first second minimum)) (length first + length second)) points)
+
+unfoldable pub all-hold : List Case → Bool
+all-hold [] = true
+all-hold (k ∷ ks) = holds k && all-hold ks
+
+-- The strings of 000: caabaad and baadcaaaabaa.
+unfoldable pub shorter : List ℕ
+shorter = c ∷ a ∷ a ∷ b ∷ a ∷ a ∷ d ∷ []
+
+unfoldable pub longer : List ℕ
+longer = b ∷ a ∷ a ∷ d ∷ c ∷ a ∷ a ∷ a ∷ a ∷ b ∷ a ∷ a ∷ []
+
+unfoldable pub cases : List Case
+cases =
+    pair [] [] 1 [] 0 0
+    ∷ pair (a ∷ []) (a ∷ []) 1 (0 ∷ 0 ∷ 1 ∷ []) 1 1000
+    ∷ pair (a ∷ []) (a ∷ []) 2 [] 0 0
+    ∷ pair (no-call ∷ []) (no-call ∷ []) 1 [] 0 0
+    ∷ pair shorter longer 2 (1 ∷ 7 ∷ 5 ∷ []) 5 526
+    ∷ pair shorter longer 1 (1 ∷ 7 ∷ 5 ∷ 0 ∷ 4 ∷ 1 ∷ 6 ∷ 3 ∷ 1 ∷ []) 7 736
+    ∷ pair (a ∷ b ∷ []) (b ∷ a ∷ []) 1 (0 ∷ 1 ∷ 1 ∷ 1 ∷ 0 ∷ 1 ∷ []) 2 1000
+    ∷ pair (a ∷ a ∷ a ∷ a ∷ []) (a ∷ a ∷ []) 1 (0 ∷ 0 ∷ 2 ∷ []) 2 666
+    ∷ pair (a ∷ a ∷ a ∷ []) (a ∷ a ∷ a ∷ []) 3 (0 ∷ 0 ∷ 3 ∷ []) 3 1000
+    ∷ pair (a ∷ b ∷ a ∷ []) (a ∷ b ∷ b ∷ a ∷ []) 2 (0 ∷ 0 ∷ 2 ∷ []) 2 571
+    ∷ pair (a ∷ b ∷ c ∷ d ∷ e ∷ []) (c ∷ d ∷ e ∷ a ∷ b ∷ []) 2 (2 ∷ 0 ∷ 3 ∷ 0 ∷ 3 ∷ 2 ∷ []) 5 1000
+    ∷ []

@@ -1,0 +1,6 @@
+pub mod Run
+pub mod Greedy
+pub mod Tiling
+pub mod Listing
+pub mod Comparing
+pub mod Known

@@ -1,0 +1,49 @@
+-- The tiles as they are listed for the two sequences as handed in, and the numbers that a comparison answers.
+use Prim.Native.Nat.{ℕ, zero, suc, _+_, _*_, _/_}
+use mathlib.Core.Bool.{Bool, true, false}
+use mathlib.Core.List.{List, [], _∷_, map}
+use lib.Dec.{leb}
+use lib.IntN.{ℤ, pos, _-ℤ_}
+use lib.ListN.{length}
+use Rattle.tiling.specs.Tiling.{Tile, tiling}
+
+-- A listed tile: "start on the first strand, start on the second strand, length. First and second mean as handed in, not
+-- pattern and text."
+pub record Entry : Type 0 where
+  pub first : ℕ
+  pub second : ℕ
+  pub len : ℕ
+
+-- "The pattern is the shorter strand, the text the longer. When lengths are equal the first strand is the pattern."
+unfoldable pub firstIsPattern : List ℕ → List ℕ → Bool
+firstIsPattern first second = leb (length first) (length second)
+
+abbrev pub straight : Tile → Entry
+straight k = record { first = k .p; second = k .t; len = k .len }
+
+abbrev pub crossed : Tile → Entry
+crossed k = record { first = k .t; second = k .p; len = k .len }
+
+unfoldable pub listing : List ℕ → List ℕ → ℕ → List Entry
+listing first second minimum =
+    elim (firstIsPattern first second)
+    [ true ↦ map straight (tiling minimum first second) | false ↦ map crossed (tiling minimum second first) ]
+
+-- "A tile is three words in the tile buffer", in the order laid.
+unfoldable pub tileWords : List Entry → List ℕ
+tileWords [] = []
+tileWords (e ∷ es) = e .first ∷ e .second ∷ e .len ∷ tileWords es
+
+-- "Covered is the sum of tile lengths."
+unfoldable pub covered : List Entry → ℕ
+covered [] = 0
+covered (e ∷ es) = e .len + covered es
+
+-- "The score is 2,000 × covered divided by the sum of both lengths, rounded down; two empty strands score 0."
+unfoldable pub score : ℕ → ℕ → ℕ
+score covered zero = 0
+score covered (suc total) = 2000 * covered / suc total
+
+-- "The shift of a tile is its second start minus its first, a signed number".
+unfoldable pub shift : Entry → ℤ
+shift e = pos (e .second) -ℤ pos (e .first)

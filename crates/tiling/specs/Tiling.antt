@@ -1,0 +1,46 @@
+-- The greedy string tiling of a pattern and a text. It knows no hash, pass or search length.
+use Prim.Native.Nat.{ℕ}
+use mathlib.Core.List.{List}
+use lib.ListN.{length, drop}
+use Rattle.tiling.specs.Run.{run, mark}
+use Rattle.tiling.specs.Greedy.{peak, greedy}
+
+-- A tile: where it starts on the pattern, where on the text, and its length (000 writes p, t and length).
+pub record Tile : Type 0 where
+  pub p : ℕ
+  pub t : ℕ
+  pub len : ℕ
+
+-- The two sequences with the words marked so far.
+pub record State : Type 0 where
+  pub pattern : List ℕ
+  pub text : List ℕ
+
+-- The length of the run at (p, t).
+abbrev pub runAt : State → ℕ → ℕ → ℕ
+runAt s p t = run (drop p (s .pattern)) (drop t (s .text))
+
+-- The first position of the text at which the run from p is longest, and that run's length.
+unfoldable pub bestText : State → ℕ → ℕ
+bestText s p = peak (runAt s p) (length (s .text))
+
+unfoldable pub rowLength : State → ℕ → ℕ
+rowLength s p = runAt s p (bestText s p)
+
+-- "take the longest, on equal length the one with the smallest p, then the smallest t". A length of 0 stands for none.
+unfoldable pub best : State → Tile
+best s =
+    let p = peak (rowLength s) (length (s .pattern)) in
+    record { p = p; t = bestText s p; len = rowLength s p }
+
+-- "It becomes a tile and its words on both strands are marked."
+unfoldable pub lay : State → Tile → State
+lay s k = record { pattern = mark (k .p) (k .len) (s .pattern); text = mark (k .t) (k .len) (s .text) }
+
+abbrev pub size : Tile → ℕ
+size k = k .len
+
+-- The tiles in the order laid. Each takes at least one word of the pattern, so its length is fuel enough.
+unfoldable pub tiling : ℕ → List ℕ → List ℕ → List Tile
+tiling minimum pattern text =
+    greedy best size lay (length pattern) minimum (record { pattern = pattern; text = text })

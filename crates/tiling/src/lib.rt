@@ -1,0 +1,1 @@
+// The tiling's definition and laws; no code yet.
