@@ -67,6 +67,9 @@ pub match-self : (a : ℕ) → isCall a ≡ true → matches a a ≡ true
 unfolding matches
 match-self a e = rw (e, eq-eqb (code a) (code a) refl)
 
+pub match-swap : (a b : ℕ) → matches a b ≡ true → matches b a ≡ true
+match-swap a b e = rw (← match-equal a b e) (match-self a (match-call a b e))
+
 -- Other words match nothing, the word 0 and the no-call among them.
 pub no-match-left : (a b : ℕ) → isCall a ≡ false → matches a b ≡ false
 unfolding matches

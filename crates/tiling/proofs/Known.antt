@@ -6,9 +6,9 @@ use Rattle.symbol.specs.Word.{kind, low, code, isCall, matches}
 use Rattle.tiling.specs.Run.{run, mark}
 use Rattle.tiling.specs.Greedy.{peak, greedy}
 use Rattle.tiling.specs.Tiling.{bestText, rowLength, best, lay, tiling}
-use Rattle.tiling.specs.Listing.{firstIsPattern, listing, tileWords, covered, score}
-use Rattle.tiling.specs.Known.{same, holds, all-hold, shorter, longer, cases}
+use Rattle.tiling.specs.Listing.{firstIsPattern, listing, tileWords, covered, score, shift}
+use Rattle.tiling.specs.Known.{same, sameℤ, shifted, holds, all-hold, shorter, longer, cases}
 
 pub known : all-hold cases ≡ true
-unfolding kind low code isCall matches run mark peak greedy bestText rowLength best lay tiling firstIsPattern listing tileWords covered score same holds all-hold shorter longer cases
+unfolding kind low code isCall matches run mark peak greedy bestText rowLength best lay tiling firstIsPattern listing tileWords covered score shift same sameℤ shifted holds all-hold shorter longer cases
 known = refl

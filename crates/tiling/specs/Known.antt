@@ -3,8 +3,9 @@ use Prim.Native.Nat.{ℕ, _+_, _^_}
 use mathlib.Core.Bool.{Bool, true, false, _&&_}
 use mathlib.Core.List.{List, [], _∷_, _++_}
 use lib.Dec.{eqb}
+use lib.IntN.{ℤ, pos, negsuc, negℤ}
 use lib.ListN.{length}
-use Rattle.tiling.specs.Listing.{listing, tileWords, covered, score}
+use Rattle.tiling.specs.Listing.{Entry, listing, tileWords, covered, score, shift}
 
 -- "Writing a to d for calls of codes 1 to 4 .. e is code 5, ? a no-call."
 abbrev pub a : ℕ
@@ -25,9 +26,10 @@ e = 2 ^ 30 + 5
 abbrev pub no-call : ℕ
 no-call = 2 ^ 31
 
--- A pair with its minimum: the words of its tile buffer, covered and score.
+-- A pair with its minimum: the words of its tile buffer, covered and score. The same pair's shifts.
 pub data Case : Type 0 where
   pair : (first second : List ℕ) (minimum : ℕ) (tiles : List ℕ) (covered score : ℕ) → Case
+  moved : (first second : List ℕ) (minimum : ℕ) (shifts : List ℤ) → Case
 
 unfoldable pub same : List ℕ → List ℕ → Bool
 same [] [] = true
@@ -35,11 +37,24 @@ same [] (y ∷ ys) = false
 same (x ∷ xs) [] = false
 same (x ∷ xs) (y ∷ ys) = eqb x y && same xs ys
 
+unfoldable pub sameℤ : ℤ → ℤ → Bool
+sameℤ (pos m) (pos n) = eqb m n
+sameℤ (pos m) (negsuc n) = false
+sameℤ (negsuc m) (pos n) = false
+sameℤ (negsuc m) (negsuc n) = eqb m n
+
+unfoldable pub shifted : List Entry → List ℤ → Bool
+shifted [] [] = true
+shifted [] (z ∷ zs) = false
+shifted (k ∷ ks) [] = false
+shifted (k ∷ ks) (z ∷ zs) = sameℤ (shift k) z && shifted ks zs
+
 unfoldable pub holds : Case → Bool
 holds (pair first second minimum tiles sum points) =
     same (tileWords (listing first second minimum)) tiles
     && (eqb (covered (listing first second minimum)) sum
     && eqb (score (covered (listing first second minimum)) (length first + length second)) points)
+holds (moved first second minimum shifts) = shifted (listing first second minimum) shifts
 
 unfoldable pub all-hold : List Case → Bool
 all-hold [] = true
@@ -65,4 +80,5 @@ cases =
     ∷ pair (a ∷ a ∷ a ∷ []) (a ∷ a ∷ a ∷ []) 3 (0 ∷ 0 ∷ 3 ∷ []) 3 1000
     ∷ pair (a ∷ b ∷ a ∷ []) (a ∷ b ∷ b ∷ a ∷ []) 2 (0 ∷ 0 ∷ 2 ∷ []) 2 571
     ∷ pair (a ∷ b ∷ c ∷ d ∷ e ∷ []) (c ∷ d ∷ e ∷ a ∷ b ∷ []) 2 (2 ∷ 0 ∷ 3 ∷ 0 ∷ 3 ∷ 2 ∷ []) 5 1000
+    ∷ moved shorter longer 1 (pos 6 ∷ pos 4 ∷ negℤ (pos 3) ∷ [])
     ∷ []

@@ -2,10 +2,10 @@
 use Prim.Native.Nat.{ℕ, zero, suc, _+_, _*_, _/_}
 use mathlib.Core.Bool.{Bool, true, false}
 use mathlib.Core.List.{List, [], _∷_, map}
-use lib.Dec.{leb}
+use lib.Dec.{leb, ltb}
 use lib.IntN.{ℤ, pos, _-ℤ_}
 use lib.ListN.{length}
-use Rattle.tiling.specs.Tiling.{Tile, tiling}
+use Rattle.tiling.specs.Tiling.{Tile, start, tiling}
 
 -- A listed tile: "start on the first strand, start on the second strand, length. First and second mean as handed in, not
 -- pattern and text."
@@ -27,7 +27,7 @@ crossed k = record { first = k .t; second = k .p; len = k .len }
 unfoldable pub listing : List ℕ → List ℕ → ℕ → List Entry
 listing first second minimum =
     elim (firstIsPattern first second)
-    [ true ↦ map straight (tiling minimum first second) | false ↦ map crossed (tiling minimum second first) ]
+    [ true ↦ map straight (tiling minimum (start first second)) | false ↦ map crossed (tiling minimum (start second first)) ]
 
 -- "A tile is three words in the tile buffer", in the order laid.
 unfoldable pub tileWords : List Entry → List ℕ

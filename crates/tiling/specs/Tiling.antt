@@ -41,6 +41,9 @@ abbrev pub size : Tile → ℕ
 size k = k .len
 
 -- The tiles in the order laid. Each takes at least one word of the pattern, so its length is fuel enough.
-unfoldable pub tiling : ℕ → List ℕ → List ℕ → List Tile
-tiling minimum pattern text =
-    greedy best size lay (length pattern) minimum (record { pattern = pattern; text = text })
+unfoldable pub tiling : ℕ → State → List Tile
+tiling minimum s = greedy best size lay (length (s .pattern)) minimum s
+
+-- "all words start unmarked"
+abbrev pub start : List ℕ → List ℕ → State
+start pattern text = record { pattern = pattern; text = text }

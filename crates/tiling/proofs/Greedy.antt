@@ -1,0 +1,50 @@
+-- The greedy choice as a relation between a state and the whole list laid from it. The relation has just one list for a state, and
+-- the function's is that list wherever laying a best of length 1 or more makes some measure of the state fall, so the fuel that
+-- the function is given says nothing.
+-- Assumes nothing.
+use Prim.Native.Nat.{ℕ, zero, suc, _≤_, _<_}
+use native.Mathlib.Decide.{decLe}
+use native.Mathlib.Omega.{arith}
+use mathlib.Core.Path.{_≡_, refl, sym, ap}
+use mathlib.Core.List.{List, [], _∷_}
+use borrow.Author.Tests.{le-leb, lt-leb}
+use lib.Dec.{leb}
+use Rattle.tiling.specs.Greedy.{greedy}
+
+module _ {S K : Type 0} (best : S → K) (size : K → ℕ) (lay : S → K → S) where
+  -- Nothing long enough is left, or the best is laid and then the rest.
+  pub data Greedy (minimum : ℕ) : S → List K → Type 0 where
+    done : {s : S} → size (best s) < minimum → Greedy minimum s []
+    more : {s : S} {ks : List K} → minimum ≤ size (best s) → Greedy minimum (lay s (best s)) ks → Greedy minimum s (best s ∷ ks)
+
+module _ {S K : Type 0} {best : S → K} {size : K → ℕ} {lay : S → K → S} where
+  -- Only one list is laid from a state.
+  pub only : {minimum : ℕ} {s : S} {ks ls : List K} → Greedy best size lay minimum s ks → Greedy best size lay minimum s ls → ks ≡ ls
+  only (done h) (done k) = refl
+  only (done h) (more k g) = absurd (omega arith)
+  only (more h g) (done k) = absurd (omega arith)
+  only {s = s} (more h g) (more k j) = ap (λ xs. best s ∷ xs) (only g j)
+
+module _ {S K : Type 0} (best : S → K) (size : K → ℕ) (lay : S → K → S) where
+  greedy-done : (fuel minimum : ℕ) (s : S) → size (best s) < minimum → greedy best size lay fuel minimum s ≡ []
+  unfolding greedy
+  greedy-done zero minimum s h = refl
+  greedy-done (suc fuel) minimum s h = rw (greedy, lt-leb minimum (size (best s)) h) refl
+
+  greedy-more : (fuel minimum : ℕ) (s : S) → minimum ≤ size (best s) → greedy best size lay (suc fuel) minimum s ≡ best s ∷ greedy best size lay fuel minimum (lay s (best s))
+  unfolding greedy
+  greedy-more fuel minimum s h = rw (greedy, le-leb minimum (size (best s)) h) refl
+
+  module _ (measure : S → ℕ) (falls : (s : S) → 1 ≤ size (best s) → measure (lay s (best s)) < measure s) where
+    -- The function's list is the one that the relation gives, where the fuel is at least the measure.
+    pub greedy-meets : (minimum : ℕ) → 1 ≤ minimum → (fuel : ℕ) (s : S) → measure s ≤ fuel → Greedy best size lay minimum s (greedy best size lay fuel minimum s)
+    greedy-meets minimum one zero s h = go (decLe minimum (size (best s)))
+      where
+        go : Dec (minimum ≤ size (best s)) → Greedy best size lay minimum s (greedy best size lay zero minimum s)
+        go (yes k) = absurd (omega (arith, falls s (omega arith)))
+        go (no k) = let l : size (best s) < minimum = omega (arith, k) in rw (greedy-done zero minimum s l) (done l)
+    greedy-meets minimum one (suc fuel) s h = go (greedy-meets minimum one fuel (lay s (best s))) (decLe minimum (size (best s)))
+      where
+        go : (measure (lay s (best s)) ≤ fuel → Greedy best size lay minimum (lay s (best s)) (greedy best size lay fuel minimum (lay s (best s)))) → Dec (minimum ≤ size (best s)) → Greedy best size lay minimum s (greedy best size lay (suc fuel) minimum s)
+        go f (yes k) = rw (greedy-more fuel minimum s k) (more k (f (omega (arith, falls s (omega arith)))))
+        go f (no k) = let l : size (best s) < minimum = omega (arith, k) in rw (greedy-done (suc fuel) minimum s l) (done l)

@@ -1,0 +1,127 @@
+-- Runs and marking, word by word. A run is as long as the words match, so each word of it matches and the next pair does not; marking
+-- writes zeros over a stretch and touches nothing else, and a zero matches nothing.
+-- Assumes nothing.
+use Prim.Native.Nat.{ℕ, zero, suc, _+_, _-_, _≤_, _<_, min}
+use native.Mathlib.Nat.{not-suc-le-zero, le-of-suc-le-suc}
+use native.Mathlib.Decide.{decLe, decLt}
+use native.Mathlib.Omega.{arith}
+use mathlib.Core.Path.{_≡_, refl, sym, _∙_, ap}
+use mathlib.Core.Bool.{Bool, true, false}
+use mathlib.Core.List.{List, [], _∷_, _++_}
+use lib.ListN.{length, take, drop, getD, length-drop, replicate}
+use lib.Seq.{drop-nil, getD-drop}
+use Rattle.symbol.specs.Word.{isCall, matches}
+use Rattle.symbol.proofs.Word.{call-below, no-match-left, no-match-right}
+use Rattle.tiling.specs.Run.{run, mark}
+
+-- ---- the word 0
+pub zero-left : (w : ℕ) → matches 0 w ≡ false
+zero-left w = no-match-left 0 w (call-below 0 (omega arith))
+
+pub zero-right : (w : ℕ) → matches w 0 ≡ false
+zero-right w = no-match-right w 0 (call-below 0 (omega arith))
+
+-- ---- the run of two lists
+pub run-nil : (ps : List ℕ) → run ps [] ≡ 0
+unfolding run
+run-nil [] = refl
+run-nil (p ∷ ps) = refl
+
+run-cons : (p t : ℕ) (ps ts : List ℕ) → matches p t ≡ true → run (p ∷ ps) (t ∷ ts) ≡ suc (run ps ts)
+unfolding run
+run-cons p t ps ts e = rw (run, e) refl
+
+run-none : (p t : ℕ) (ps ts : List ℕ) → matches p t ≡ false → run (p ∷ ps) (t ∷ ts) ≡ 0
+unfolding run
+run-none p t ps ts e = rw (run, e) refl
+
+-- A run stays within both lists.
+pub run-within : (ps ts : List ℕ) → run ps ts ≤ min (length ps) (length ts)
+unfolding run
+run-within [] ts = omega arith
+run-within (p ∷ ps) [] = omega arith
+run-within (p ∷ ps) (t ∷ ts) = go (run-within ps ts) (matches p t) refl
+  where
+    go : run ps ts ≤ min (length ps) (length ts) → (b : Bool) → matches p t ≡ b → run (p ∷ ps) (t ∷ ts) ≤ min (suc (length ps)) (suc (length ts))
+    go h true e = omega (arith, run-cons p t ps ts e)
+    go h false e = omega (arith, run-none p t ps ts e)
+
+-- Each pair of words of a run matches, and the pair after it does not (past an end stands 0).
+pub run-match : (ps ts : List ℕ) (i : ℕ) → i < run ps ts → matches (getD ps i 0) (getD ts i 0) ≡ true
+unfolding run
+run-match [] ts i h = absurd (not-suc-le-zero h)
+run-match (p ∷ ps) [] i h = absurd (not-suc-le-zero h)
+run-match (p ∷ ps) (t ∷ ts) zero h = go (matches p t) refl
+  where
+    go : (b : Bool) → matches p t ≡ b → matches p t ≡ true
+    go true e = e
+    go false e = absurd (not-suc-le-zero (rw (run-none p t ps ts e) at h))
+run-match (p ∷ ps) (t ∷ ts) (suc i) h = go (run-match ps ts i) (matches p t) refl
+  where
+    go : (i < run ps ts → matches (getD ps i 0) (getD ts i 0) ≡ true) → (b : Bool) → matches p t ≡ b → matches (getD ps i 0) (getD ts i 0) ≡ true
+    go f true e = f (omega (arith, run-cons p t ps ts e))
+    go f false e = absurd (not-suc-le-zero (rw (run-none p t ps ts e) at h))
+
+pub run-stops : (ps ts : List ℕ) → matches (getD ps (run ps ts) 0) (getD ts (run ps ts) 0) ≡ false
+unfolding run
+run-stops [] ts = zero-left (getD ts 0 0)
+run-stops (p ∷ ps) [] = zero-right p
+run-stops (p ∷ ps) (t ∷ ts) = go (run-stops ps ts) (matches p t) refl
+  where
+    go : matches (getD ps (run ps ts) 0) (getD ts (run ps ts) 0) ≡ false → (b : Bool) → matches p t ≡ b → matches (getD (p ∷ ps) (run (p ∷ ps) (t ∷ ts)) 0) (getD (t ∷ ts) (run (p ∷ ps) (t ∷ ts)) 0) ≡ false
+    go h true e = rw (run-cons p t ps ts e) h
+    go h false e = rw (run-none p t ps ts e) e
+
+-- So a stretch in which every pair matches is no longer than the run.
+pub run-least : (ps ts : List ℕ) (n : ℕ) → ((i : ℕ) → i < n → matches (getD ps i 0) (getD ts i 0) ≡ true) → n ≤ run ps ts
+run-least ps ts n h = go (decLe n (run ps ts))
+  where
+    go : Dec (n ≤ run ps ts) → n ≤ run ps ts
+    go (yes k) = k
+    go (no k) = let f : false ≡ true = sym (run-stops ps ts) ∙ h (run ps ts) (omega (arith, k)) in let z : _≡_ {A = ℕ} 0 1 = cc in omega arith
+
+-- ---- marking
+pub length-mark : (i n : ℕ) (xs : List ℕ) → length (mark i n xs) ≡ length xs
+unfolding mark
+length-mark i n [] = refl
+length-mark (suc i) n (x ∷ xs) = ap suc (length-mark i n xs)
+length-mark zero zero (x ∷ xs) = refl
+length-mark zero (suc n) (x ∷ xs) = ap suc (length-mark zero n xs)
+
+-- A word before the stretch, in it, and after it.
+pub mark-before : (i n : ℕ) (xs : List ℕ) (j : ℕ) → j < i → getD (mark i n xs) j 0 ≡ getD xs j 0
+unfolding mark
+mark-before i n [] j h = refl
+mark-before zero n (x ∷ xs) j h = absurd (not-suc-le-zero h)
+mark-before (suc i) n (x ∷ xs) zero h = refl
+mark-before (suc i) n (x ∷ xs) (suc j) h = mark-before i n xs j (le-of-suc-le-suc h)
+
+pub mark-inside : (i n : ℕ) (xs : List ℕ) (j : ℕ) → i ≤ j → j < i + n → getD (mark i n xs) j 0 ≡ 0
+unfolding mark
+mark-inside i n [] j h k = refl
+mark-inside (suc i) n (x ∷ xs) zero h k = absurd (not-suc-le-zero h)
+mark-inside (suc i) n (x ∷ xs) (suc j) h k = mark-inside i n xs j (le-of-suc-le-suc h) (omega arith)
+mark-inside zero zero (x ∷ xs) j h k = let z : j < 0 = omega arith in absurd (not-suc-le-zero z)
+mark-inside zero (suc n) (x ∷ xs) zero h k = refl
+mark-inside zero (suc n) (x ∷ xs) (suc j) h k = mark-inside zero n xs j (omega arith) (omega arith)
+
+pub mark-after : (i n : ℕ) (xs : List ℕ) (j : ℕ) → i + n ≤ j → getD (mark i n xs) j 0 ≡ getD xs j 0
+unfolding mark
+mark-after i n [] j h = refl
+mark-after (suc i) n (x ∷ xs) zero h = let z : suc i ≤ 0 = omega arith in absurd (not-suc-le-zero z)
+mark-after (suc i) n (x ∷ xs) (suc j) h = mark-after i n xs j (omega arith)
+mark-after zero zero (x ∷ xs) j h = refl
+mark-after zero (suc n) (x ∷ xs) zero h = let z : suc n ≤ 0 = omega arith in absurd (not-suc-le-zero z)
+mark-after zero (suc n) (x ∷ xs) (suc j) h = mark-after zero n xs j (omega arith)
+
+-- So a word after marking that is not 0 is the word that stood there.
+pub mark-kept : (i n : ℕ) (xs : List ℕ) (j : ℕ) → (getD (mark i n xs) j 0 ≡ 0 → ⊥) → getD (mark i n xs) j 0 ≡ getD xs j 0
+mark-kept i n xs j h = before (decLt j i)
+  where
+    after : Dec (j < i + n) → i ≤ j → getD (mark i n xs) j 0 ≡ getD xs j 0
+    after (yes k) l = absurd (h (mark-inside i n xs j l k))
+    after (no k) l = mark-after i n xs j (omega (arith, k))
+
+    before : Dec (j < i) → getD (mark i n xs) j 0 ≡ getD xs j 0
+    before (yes k) = mark-before i n xs j k
+    before (no k) = after (decLt j (i + n)) (omega (arith, k))
