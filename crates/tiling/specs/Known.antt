@@ -1,4 +1,5 @@
--- The pairs K1 to K11 and the windows K12 of 01 as one list of cases, and the test that each comes out as written.
+-- The pairs K1 to K11 and the windows K12 of 01 as one list of cases, and the test that each comes out as written. Two cases are
+-- ours: the shifts of 01's worked example, and a pair that would come out otherwise if the text were not marked.
 use Prim.Native.Nat.{ℕ, _+_, _^_}
 use mathlib.Core.Bool.{Bool, true, false, _&&_}
 use mathlib.Core.List.{List, [], _∷_, _++_}
@@ -80,5 +81,6 @@ cases =
     ∷ pair (a ∷ a ∷ a ∷ []) (a ∷ a ∷ a ∷ []) 3 (0 ∷ 0 ∷ 3 ∷ []) 3 1000
     ∷ pair (a ∷ b ∷ a ∷ []) (a ∷ b ∷ b ∷ a ∷ []) 2 (0 ∷ 0 ∷ 2 ∷ []) 2 571
     ∷ pair (a ∷ b ∷ c ∷ d ∷ e ∷ []) (c ∷ d ∷ e ∷ a ∷ b ∷ []) 2 (2 ∷ 0 ∷ 3 ∷ 0 ∷ 3 ∷ 2 ∷ []) 5 1000
+    ∷ pair (a ∷ a ∷ []) (a ∷ b ∷ []) 1 (0 ∷ 0 ∷ 1 ∷ []) 1 500
     ∷ moved shorter longer 1 (pos 6 ∷ pos 4 ∷ negℤ (pos 3) ∷ [])
     ∷ []
