@@ -4,7 +4,7 @@
 
 use crate::core::{Counted, ReadAnswer};
 
-/// "A strand is 0 to 2,048 words."
+/// "A strand is 0 to 2,048 words [..]."
 pub const MAX_WORDS: usize = 2_048;
 
 // The refusals' numbers in 01's table.
@@ -58,7 +58,7 @@ pub fn matches(a: u32, b: u32) -> bool {
     }
 }
 
-/// "Bits 29 to 14 the fish number, bits 13 to 0 the count of words that follow."
+/// "Bits 29 to 14 the fish number [..], bits 13 to 0 the count of words that follow [..]."
 pub fn header(id: u16, count: usize) -> u32 {
     assert!(count < 1 << 14, "a count has 14 bits");
     u32::from(id) << 14 | count as u32
