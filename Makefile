@@ -1,0 +1,27 @@
+# Recipes are bash scripts: one shell each, stopped by the first failure, in a pipeline too.
+SHELL := /bin/bash
+.SHELLFLAGS := -euo pipefail -c
+.ONESHELL:
+.PHONY: test staticlib check clean
+
+# Proves everything from nothing and runs the Rust test program; ends with the last line of `rt ci`.
+test:
+	@log=$$(mktemp)
+	trap 'rm -f "$$log"' EXIT
+	rt fmt --check
+	rt ci | tee "$$log"
+	rt staticlib capi
+	cargo run --release --offline --quiet --manifest-path tests/Cargo.toml --target-dir target/cargo
+	tail -n 1 "$$log"
+
+# Writes target/staticlib/libcapi.a, the proved functions for Rust and C.
+staticlib:
+	@rt staticlib capi
+
+# The quick loop: proves what has changed.
+check:
+	@rt check
+
+# Removes all that was built.
+clean:
+	@rm -rf target

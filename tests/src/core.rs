@@ -1,0 +1,88 @@
+//! The core's exported functions. This is the whole boundary: the program has no other foreign
+//! function and no other unsafe code. A slice is passed as a pointer and then a length.
+
+/// The answer of reading: a refusal's number and zeros, or 0 and what was read.
+#[repr(C)]
+#[derive(Clone, Copy, Debug, PartialEq, Eq)]
+pub struct ReadAnswer {
+    pub refusal: u32,
+    pub id: u32,
+    pub count: u32,
+    pub used: u32,
+}
+
+/// The answer of a call that counts what it wrote: a refusal's number and 0, or 0 and the count.
+#[repr(C)]
+#[derive(Clone, Copy, Debug, PartialEq, Eq)]
+pub struct Counted {
+    pub refusal: u32,
+    pub count: u32,
+}
+
+extern "C" {
+    fn sigxume_match(a: u32, b: u32) -> bool;
+    fn sigxume_sound(words: *const u32, words_len: usize) -> bool;
+    fn sigxume_read(
+        src: *const u32,
+        src_len: usize,
+        buffer: *mut u32,
+        buffer_len: usize,
+    ) -> ReadAnswer;
+    fn sigxume_write(
+        id: u16,
+        sequence: *const u32,
+        sequence_len: usize,
+        buffer: *mut u32,
+        buffer_len: usize,
+    ) -> Counted;
+    fn sigxume_hash_list(
+        words: *const u32,
+        words_len: usize,
+        multiplier: u32,
+        window: u32,
+        buffer: *mut u32,
+        buffer_len: usize,
+    ) -> Counted;
+}
+
+/// Whether two words match.
+pub fn matches(a: u32, b: u32) -> bool {
+    unsafe { sigxume_match(a, b) }
+}
+
+/// Whether each word is a call or the no-call.
+pub fn all_sound(words: &[u32]) -> bool {
+    unsafe { sigxume_sound(words.as_ptr(), words.len()) }
+}
+
+/// Reads the record that `src` starts with; its sequence goes to the start of `buffer`.
+pub fn read(src: &[u32], buffer: &mut [u32]) -> ReadAnswer {
+    unsafe { sigxume_read(src.as_ptr(), src.len(), buffer.as_mut_ptr(), buffer.len()) }
+}
+
+/// Writes the record of an id and a sequence to the start of `buffer`.
+pub fn write(id: u16, sequence: &[u32], buffer: &mut [u32]) -> Counted {
+    unsafe {
+        sigxume_write(
+            id,
+            sequence.as_ptr(),
+            sequence.len(),
+            buffer.as_mut_ptr(),
+            buffer.len(),
+        )
+    }
+}
+
+/// Fills the start of `buffer` with the hash of each window.
+pub fn hash_list(words: &[u32], multiplier: u32, window: u32, buffer: &mut [u32]) -> Counted {
+    unsafe {
+        sigxume_hash_list(
+            words.as_ptr(),
+            words.len(),
+            multiplier,
+            window,
+            buffer.as_mut_ptr(),
+            buffer.len(),
+        )
+    }
+}

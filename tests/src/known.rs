@@ -1,0 +1,77 @@
+//! The reference itself against 01's table: the pairs K1 to K11 and the windows K12.
+
+use crate::group::Group;
+use crate::reference::{covered, score, tiling, window_hashes, Tile};
+use crate::samples::{call, NO_CALL};
+
+/// A row of 01's table: name, first, second, minimum, tiles, covered, score.
+type Row = (
+    &'static str,
+    &'static str,
+    &'static str,
+    usize,
+    &'static [[usize; 3]],
+    usize,
+    usize,
+);
+
+#[rustfmt::skip]
+const PAIRS: [Row; 11] = [
+    ("K1", "", "", 1, &[], 0, 0),
+    ("K2", "a", "a", 1, &[[0, 0, 1]], 1, 1000),
+    ("K3", "a", "a", 2, &[], 0, 0),
+    ("K4", "?", "?", 1, &[], 0, 0),
+    ("K5", "caabaad", "baadcaaaabaa", 2, &[[1, 7, 5]], 5, 526),
+    ("K6", "caabaad", "baadcaaaabaa", 1, &[[1, 7, 5], [0, 4, 1], [6, 3, 1]], 7, 736),
+    ("K7", "ab", "ba", 1, &[[0, 1, 1], [1, 0, 1]], 2, 1000),
+    ("K8", "aaaa", "aa", 1, &[[0, 0, 2]], 2, 666),
+    ("K9", "aaa", "aaa", 3, &[[0, 0, 3]], 3, 1000),
+    ("K10", "aba", "abba", 2, &[[0, 0, 2]], 2, 571),
+    ("K11", "abcde", "cdeab", 2, &[[2, 0, 3], [0, 3, 2]], 5, 1000),
+];
+
+/// "Writing a to d for calls of codes 1 to 4", e is code 5, ? a no-call.
+pub fn letters(letters: &str) -> Vec<u32> {
+    letters
+        .bytes()
+        .map(|letter| match letter {
+            b'?' => NO_CALL,
+            letter => call(u16::from(letter - b'a') + 1),
+        })
+        .collect()
+}
+
+/// K1 to K11.
+pub fn pairs(g: &mut Group) {
+    for (name, first, second, minimum, tiles, its_covered, its_score) in PAIRS {
+        let (first, second) = (letters(first), letters(second));
+        let laid = tiling(&first, &second, minimum);
+        let sum = covered(&laid);
+        let its_tiles = tiles.iter().map(|&[first, second, length]| Tile {
+            first,
+            second,
+            length,
+        });
+        g.equal(
+            format_args!("{name}: tiles, covered, score"),
+            (laid, sum, score(sum, first.len(), second.len())),
+            (its_tiles.collect(), its_covered, its_score),
+        );
+    }
+}
+
+/// K12: "words 1, 2, 3: hash 123 at B = 10, then 234 after 4 comes in; 3 at B = 2^31; 3 at B = 0".
+pub fn windows(g: &mut Group) {
+    let rows: [(u32, &[u32], &[u32]); 3] = [
+        (10, &[1, 2, 3, 4], &[123, 234]),
+        (1 << 31, &[1, 2, 3], &[3]),
+        (0, &[1, 2, 3], &[3]),
+    ];
+    for (multiplier, words, hashes) in rows {
+        g.equal(
+            format_args!("K12 at B = {multiplier}"),
+            window_hashes(words, multiplier, 3),
+            hashes.to_vec(),
+        );
+    }
+}

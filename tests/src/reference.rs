@@ -1,0 +1,258 @@
+//! The reference: what the scope paper (01) says, written the most direct way and apart from the
+//! core. The comments quote 01; a sequence is its strand, a record its strip, a header its heading,
+//! a trailer its closing word and an id its fish number.
+
+use crate::core::{Counted, ReadAnswer};
+
+/// "A strand is 0 to 2,048 words [..]."
+pub const MAX_WORDS: usize = 2_048;
+
+// The refusals' numbers in 01's table.
+pub const TOO_LONG: u32 = 1;
+pub const UNSOUND: u32 = 2;
+pub const WINDOW: u32 = 5;
+pub const CUT: u32 = 8;
+pub const HEADER: u32 = 9;
+pub const TRAILER: u32 = 10;
+pub const ROOM: u32 = 11;
+
+/// Refuses with a number where its cause holds. Calls in a row check causes in that order.
+fn refuse(cause: bool, number: u32) -> Result<(), u32> {
+    if cause {
+        Err(number)
+    } else {
+        Ok(())
+    }
+}
+
+/// "Its top two bits are its kind."
+fn kind(word: u32) -> u32 {
+    word >> 30
+}
+
+/// Bits 29 to 0.
+fn low(word: u32) -> u32 {
+    word & 0x3FFF_FFFF
+}
+
+/// The code of a call: "bits 15 to 0 a motif code, bits 29 to 16 zero".
+fn code(word: u32) -> Option<u32> {
+    (kind(word) == 1 && low(word) >> 16 == 0).then_some(word & 0xFFFF)
+}
+
+/// Whether a word is a call or a no-call ("bits 29 to 0 zero").
+pub fn is_sound(word: u32) -> bool {
+    code(word).is_some() || (kind(word) == 2 && low(word) == 0)
+}
+
+/// Whether each word is a call or a no-call.
+pub fn all_sound(words: &[u32]) -> bool {
+    words.iter().all(|&word| is_sound(word))
+}
+
+/// "Two words match when both are calls with equal codes."
+pub fn matches(a: u32, b: u32) -> bool {
+    match (code(a), code(b)) {
+        (Some(a), Some(b)) => a == b,
+        _ => false,
+    }
+}
+
+/// "Bits 29 to 14 the fish number [..], bits 13 to 0 the count of words that follow [..]."
+pub fn header(id: u16, count: usize) -> u32 {
+    assert!(count < 1 << 14, "a count has 14 bits");
+    u32::from(id) << 14 | count as u32
+}
+
+/// "The sum, modulo 2^30, of the low 30 bits of the heading and of every strand word", as kind 3.
+pub fn trailer(header_and_sequence: &[u32]) -> u32 {
+    let sum: u64 = header_and_sequence.iter().map(|&w| u64::from(low(w))).sum();
+    3 << 30 | (sum % (1 << 30)) as u32
+}
+
+/// Words with their trailer after them; a header and a sequence become a record.
+pub fn sealed(mut words: Vec<u32>) -> Vec<u32> {
+    words.push(trailer(&words));
+    words
+}
+
+/// The record of an id and a sequence.
+pub fn record(id: u16, sequence: &[u32]) -> Vec<u32> {
+    sealed([&[header(id, sequence.len())], sequence].concat())
+}
+
+/// The id and the sequence of the record that `src` starts with: "an empty slice is 8; then 9; then
+/// fewer than count + 2 words is 8; then 2, 10, 11".
+fn parse(src: &[u32], room: usize) -> Result<(u32, &[u32]), u32> {
+    let header = *src.first().ok_or(CUT)?;
+    let (id, count) = (header >> 14, (header & 0x3FFF) as usize);
+    refuse(kind(header) != 0 || count > MAX_WORDS, HEADER)?;
+    refuse(src.len() < count + 2, CUT)?;
+    let sequence = &src[1..=count];
+    refuse(!all_sound(sequence), UNSOUND)?;
+    refuse(src[count + 1] != trailer(&src[..=count]), TRAILER)?;
+    refuse(room < count, ROOM)?;
+    Ok((id, sequence))
+}
+
+/// Reads the record that `src` starts with.
+pub fn read(src: &[u32], buffer: &mut [u32]) -> ReadAnswer {
+    let mut answer = ReadAnswer {
+        refusal: 0,
+        id: 0,
+        count: 0,
+        used: 0,
+    };
+    match parse(src, buffer.len()) {
+        Err(refusal) => answer.refusal = refusal,
+        Ok((id, sequence)) => {
+            buffer[..sequence.len()].copy_from_slice(sequence);
+            answer.id = id;
+            answer.count = sequence.len() as u32;
+            answer.used = answer.count + 2;
+        }
+    }
+    answer
+}
+
+/// Copies what was made to the start of `buffer` and counts it, or answers the refusal.
+fn deliver(made: Result<Vec<u32>, u32>, buffer: &mut [u32]) -> Counted {
+    // "Destination buffer shorter than what would be written" is the last cause of all.
+    let made = made.and_then(|words| refuse(buffer.len() < words.len(), ROOM).map(|()| words));
+    match made {
+        Err(refusal) => Counted { refusal, count: 0 },
+        Ok(words) => {
+            buffer[..words.len()].copy_from_slice(&words);
+            Counted {
+                refusal: 0,
+                count: words.len() as u32,
+            }
+        }
+    }
+}
+
+/// Writes the record of an id and a sequence: "checks 1, 2, then 11".
+pub fn write(id: u16, sequence: &[u32], buffer: &mut [u32]) -> Counted {
+    let made = refuse(sequence.len() > MAX_WORDS, TOO_LONG)
+        .and_then(|()| refuse(!all_sound(sequence), UNSOUND))
+        .map(|()| record(id, sequence));
+    deliver(made, buffer)
+}
+
+/// B^0, B^1, .. modulo 2^32, "with B^0 = 1 even for B = 0".
+fn powers(multiplier: u32, count: usize) -> Vec<u64> {
+    std::iter::successors(Some(1), |power| {
+        Some(power * u64::from(multiplier) % (1 << 32))
+    })
+    .take(count)
+    .collect()
+}
+
+/// The hash of each window: "w0 × B^(s-1) + .. + w(s-1), modulo 2^32, over whole words". Each window
+/// is summed by itself, so nothing rolls.
+pub fn window_hashes(words: &[u32], multiplier: u32, window: usize) -> Vec<u32> {
+    let powers = powers(multiplier, window);
+    let hash = |window: &[u32]| {
+        let terms = window.iter().zip(powers.iter().rev());
+        let sum: u128 = terms.map(|(&w, &p)| u128::from(w) * u128::from(p)).sum();
+        (sum % (1 << 32)) as u32
+    };
+    words.windows(window).map(hash).collect()
+}
+
+/// The list of hashes: "it checks 1, 2, 5, then 11".
+pub fn hash_list(words: &[u32], multiplier: u32, window: u32, buffer: &mut [u32]) -> Counted {
+    let window = window as usize;
+    let made = refuse(words.len() > MAX_WORDS, TOO_LONG)
+        .and_then(|()| refuse(!all_sound(words), UNSOUND))
+        .and_then(|()| refuse(!(1..=MAX_WORDS).contains(&window), WINDOW))
+        .map(|()| window_hashes(words, multiplier, window));
+    deliver(made, buffer)
+}
+
+/// A tile: its start on the first sequence, its start on the second, its length.
+#[derive(Clone, Copy, Debug, PartialEq, Eq)]
+pub struct Tile {
+    pub first: usize,
+    pub second: usize,
+    pub length: usize,
+}
+
+/// The pattern or the text: its words, and which of them a tile has marked.
+struct Side<'a> {
+    words: &'a [u32],
+    marked: Vec<bool>,
+}
+
+impl<'a> Side<'a> {
+    fn new(words: &'a [u32]) -> Self {
+        let marked = vec![false; words.len()];
+        Self { words, marked }
+    }
+
+    fn mark(&mut self, start: usize, length: usize) {
+        self.marked[start..start + length].fill(true);
+    }
+}
+
+/// The length of the run at (p, t): it stops "at the end of a strand, at a pair that doesn't match,
+/// or at a marked word on either side".
+fn run(pattern: &Side, p: usize, text: &Side, t: usize) -> usize {
+    let reach = (pattern.words.len() - p).min(text.words.len() - t);
+    let goes_on = |&k: &usize| {
+        let free = !pattern.marked[p + k] && !text.marked[t + k];
+        free && matches(pattern.words[p + k], text.words[t + k])
+    };
+    (0..reach).take_while(goes_on).count()
+}
+
+/// "Among runs of at least the minimum length take the longest, on equal length the one with the
+/// smallest p, then the smallest t": p, t and the length, with every pair looked at.
+fn best_run(pattern: &Side, text: &Side, minimum: usize) -> Option<(usize, usize, usize)> {
+    let mut best = None;
+    let mut wanted = minimum;
+    for p in 0..pattern.words.len() {
+        for t in 0..text.words.len() {
+            let length = run(pattern, p, text, t);
+            if length >= wanted {
+                best = Some((p, t, length));
+                wanted = length + 1;
+            }
+        }
+    }
+    best
+}
+
+/// The tiles of two sequences in the order laid, for a minimum of at least 1.
+pub fn tiling(first: &[u32], second: &[u32], minimum: usize) -> Vec<Tile> {
+    assert!(minimum >= 1, "a minimum is at least 1");
+    // "The pattern is the shorter strand [..]. When lengths are equal the first strand is the pattern."
+    let swapped = second.len() < first.len();
+    let (mut pattern, mut text) = if swapped {
+        (Side::new(second), Side::new(first))
+    } else {
+        (Side::new(first), Side::new(second))
+    };
+    let mut tiles = Vec::new();
+    while let Some((p, t, length)) = best_run(&pattern, &text, minimum) {
+        pattern.mark(p, length);
+        text.mark(t, length);
+        let (first, second) = if swapped { (t, p) } else { (p, t) };
+        tiles.push(Tile {
+            first,
+            second,
+            length,
+        });
+    }
+    tiles
+}
+
+/// "Covered is the sum of tile lengths."
+pub fn covered(tiles: &[Tile]) -> usize {
+    tiles.iter().map(|tile| tile.length).sum()
+}
+
+/// "2,000 × covered divided by the sum of both lengths, rounded down; two empty strands score 0."
+pub fn score(covered: usize, first: usize, second: usize) -> usize {
+    (2_000 * covered).checked_div(first + second).unwrap_or(0)
+}
