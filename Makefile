@@ -2,7 +2,7 @@
 SHELL := /bin/bash
 .SHELLFLAGS := -euo pipefail -c
 .ONESHELL:
-.PHONY: test staticlib check clean
+.PHONY: library test check clean
 
 # Proves everything from nothing and runs the Rust test program; ends with the last line of `rt ci`.
 test:
@@ -15,7 +15,7 @@ test:
 	tail -n 1 "$$log"
 
 # Writes target/staticlib/libcapi.a, the proved functions for Rust and C.
-staticlib:
+library:
 	@rt staticlib capi
 
 # The quick loop: proves what has changed.
