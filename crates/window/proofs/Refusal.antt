@@ -1,0 +1,38 @@
+-- A chain of refusals link by link: a cause that holds gives its number, one that does not leaves it to the later causes.
+-- Assumes nothing.
+use Prim.Native.Nat.{ℕ, _≤_, _<_}
+use native.Mathlib.Omega.{arith}
+use mathlib.Core.Path.{_≡_, refl}
+use mathlib.Core.Bool.{Bool, true, false, not}
+use lib.Dec.{ltb}
+use borrow.Author.Tests.{lt-ltb, le-ltb, eq-eqb, ne-eqb}
+use Rattle.symbol.specs.Refusal.{refuse}
+
+pub refused : (t : Bool) (n later : ℕ) → t ≡ true → n ≡ refuse t n later
+refused t n later e = rw e
+
+pub passed : (t : Bool) (r n later : ℕ) → t ≡ false → r ≡ later → r ≡ refuse t n later
+passed t r n later e k = rw e k
+
+-- What an accepted chain says of its first cause and of the later ones.
+pub record Clear (t : Bool) (later : ℕ) : Type 0 where
+  pub first : t ≡ false
+  pub rest : later ≡ 0
+
+pub clear : (t : Bool) (n later : ℕ) → 0 < n → refuse t n later ≡ 0 → Clear t later
+clear true n later h e = absurd (omega arith)
+clear false n later h e = record { first = refl; rest = e }
+
+-- A cause that is the contrary of a test.
+pub cause-of : (r t b : Bool) → r ≡ t → not r ≡ b → not t ≡ b
+cause-of r t b e k = rw (← e) k
+
+-- A bound that was computed.
+pub short-of : (a r n : ℕ) → r ≡ n → a < r → ltb a n ≡ true
+short-of a r n e h = lt-ltb a n (rw e at h)
+
+pub enough-for : (a r n : ℕ) → r ≡ n → r ≤ a → ltb a n ≡ false
+enough-for a r n e h = le-ltb a n (rw e at h)
+
+-- What the returns of a chain of tests want.
+pub ruleset causes = (refused, passed, cause-of, short-of, enough-for, lt-ltb, le-ltb, eq-eqb, ne-eqb)
