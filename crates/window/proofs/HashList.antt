@@ -89,9 +89,9 @@ pub record Accepted (words : List ℕ) (s room : ℕ) : Type 0 where
   pub most : s ≤ 2048
   pub fits : windows s (length words) ≤ room
 
-pub accepted : (words : List ℕ) (s room : ℕ) → hashRefusal words s room ≡ 0 → Accepted words s room
-accepted words s room e =
-    let long = clear (tooLong words) 1 _ (omega arith) e in
+pub accepted : (words : List ℕ) (s room r : ℕ) → r ≡ hashRefusal words s room → r ≡ 0 → Accepted words s room
+accepted words s room r e z =
+    let long = clear (tooLong words) 1 _ (omega arith) (sym e ∙ z) in
     let unsound = clear (not (allSound words)) 2 _ (omega arith) (long .rest) in
     let none = clear (eqb s 0) 5 _ (omega arith) (unsound .rest) in
     let wide = clear (ltb 2048 s) 5 _ (omega arith) (none .rest) in
