@@ -9,8 +9,8 @@ use mathlib.Core.Path.{_≡_, refl, sym, _∙_}
 pub record Congruent (m a b : ℕ) : Type 0 where
   pub same : a % m ≡ b % m
 
-pub congruent-equal : {m a b : ℕ} → a ≡ b → Congruent m a b
-congruent-equal e = record { same = rw e }
+pub congruent-refl : {m a : ℕ} → Congruent m a a
+congruent-refl = record { same = refl }
 
 pub congruent-sym : {m a b : ℕ} → Congruent m a b → Congruent m b a
 congruent-sym e = record { same = sym (e .same) }
@@ -43,8 +43,8 @@ full-circle k a c =
     record { same = rw (all, add-mul-mod-self-right) }
 
 pub congruent-cancel : (m : ℕ) {a b : ℕ} (c : ℕ) → Congruent m (a + c) (b + c) → Congruent m a b
-congruent-cancel zero {a} {b} c e = congruent-equal (add-right-cancel c (sym (mod-zero (a + c)) ∙ (e .same ∙ mod-zero (b + c))))
+congruent-cancel zero {a} {b} c e = record { same = rw (add-right-cancel c (simp mod-zero at (e .same))) }
 congruent-cancel (suc k) {a} {b} c e =
     congruent-trans
     (congruent-sym (full-circle k a c))
-    (congruent-trans (congruent-add e (congruent-equal refl)) (full-circle k b c))
+    (congruent-trans (congruent-add e congruent-refl) (full-circle k b c))

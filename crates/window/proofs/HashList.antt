@@ -13,7 +13,7 @@ use lib.Seq.{take-suc, drop-cons, getD-drop, length-take-le}
 use borrow.Author.Tests.{eqb-false, ltb-false}
 use Rattle.symbol.specs.Sequence.{allSound, tooLong}
 use Rattle.buffer.specs.Buffer.{onto, tabulate}
-use Rattle.buffer.proofs.Buffer.{length-tabulate, length-onto, onto-more, getD-tabulate}
+use Rattle.buffer.proofs.Buffer.{length-tabulate, onto-more, getD-tabulate}
 use Rattle.window.specs.Hash.{hash}
 use Rattle.window.specs.HashList.{windows, hashAt, hashes, hashRefusal}
 use Rattle.window.proofs.Refusal.{clear}
@@ -37,7 +37,11 @@ module _ (k i : ℕ) (words : List ℕ) (fits : i + suc k < length words) where
       let at : suc i + k ≡ i + suc k = omega arith in
       rw (take-suc (drop (suc i) words) k 0 (simp length-drop (omega arith)), getD-drop (suc i) words k 0, at)
 
-pub hash-next : (B s : ℕ) (words : List ℕ) (p h r i : ℕ) → 1 ≤ s → p ≡ B ^ (s - 1) % 2 ^ 32 → i + s < length words → h ≡ hashAt B s words i → ((ws : List ℕ) → h ≡ hash B (getD words i 0 ∷ ws) → p ≡ B ^ length ws % 2 ^ 32 → r ≡ hash B (ws ++ (getD words (i + s) 0 ∷ []))) → r ≡ hashAt B s words (i + 1)
+-- What `roll` promises of its result.
+abbrev pub Rolls : ℕ → ℕ → ℕ → ℕ → ℕ → ℕ → Type 0
+Rolls B p h outgoing incoming r = (ws : List ℕ) → h ≡ hash B (outgoing ∷ ws) → p ≡ B ^ length ws % 2 ^ 32 → r ≡ hash B (ws ++ (incoming ∷ []))
+
+hash-next : (B s : ℕ) (words : List ℕ) (p h r i : ℕ) → 1 ≤ s → p ≡ B ^ (s - 1) % 2 ^ 32 → i + s < length words → h ≡ hashAt B s words i → Rolls B p h (getD words i 0) (getD words (i + s) 0) r → r ≡ hashAt B s words (i + 1)
 hash-next B zero words p h r i least q less e roll = absurd (omega arith)
 hash-next B (suc k) words p h r i least q less e roll =
     let one : suc k - 1 ≡ k = omega arith in
@@ -72,7 +76,7 @@ module _ (B s : ℕ) (words b₀ b : List ℕ) (h i : ℕ) (inv : Filled B s wor
   pub filled-all : (b₁ : List ℕ) → length words ≤ i + s → b₁ ≡ set b i h → b₁ ≡ onto (hashes B s words) b₀
   filled-all b₁ all e = let last : windows s (length words) ≡ suc i = omega (arith, inv .within) in e ∙ rw last stored
 
-  pub filled-more : (p r : ℕ) → 1 ≤ s → p ≡ B ^ (s - 1) % 2 ^ 32 → i + s < length words → ((ws : List ℕ) → h ≡ hash B (getD words i 0 ∷ ws) → p ≡ B ^ length ws % 2 ^ 32 → r ≡ hash B (ws ++ (getD words (i + s) 0 ∷ []))) → Filled B s words b₀ (set b i h) r (i + 1)
+  pub filled-more : (p r : ℕ) → 1 ≤ s → p ≡ B ^ (s - 1) % 2 ^ 32 → i + s < length words → Rolls B p h (getD words i 0) (getD words (i + s) 0) r → Filled B s words b₀ (set b i h) r (i + 1)
   filled-more p r least q less roll =
       record {
         within = omega arith;
@@ -95,11 +99,10 @@ accepted words s room r e z =
     let unsound = clear (not (allSound words)) 2 _ (omega arith) (long .rest) in
     let none = clear (eqb s 0) 5 _ (omega arith) (unsound .rest) in
     let wide = clear (ltb 2048 s) 5 _ (omega arith) (none .rest) in
-    let room = clear (ltb room (windows s (length words))) 11 0 (omega arith) (wide .rest) in
-    let some = eqb-false s 0 (none .first) in
+    let tight = clear (ltb room (windows s (length words))) 11 0 (omega arith) (wide .rest) in
     record {
       short = ltb-false _ _ (long .first);
-      least = pos-of-ne-zero some;
+      least = pos-of-ne-zero (eqb-false s 0 (none .first));
       most = ltb-false _ _ (wide .first);
-      fits = ltb-false _ _ (room .first);
+      fits = ltb-false _ _ (tight .first);
     }

@@ -7,7 +7,6 @@ use mathlib.Core.Bool.{Bool, true, false, not}
 use lib.Dec.{ltb}
 use borrow.Author.Tests.{lt-ltb, le-ltb, eq-eqb, ne-eqb}
 use Rattle.symbol.specs.Refusal.{refuse, outcome, counted}
-use Rattle.symbol.specs.declared.Counted.{Counted}
 use Rattle.symbol.proofs.Refusal.{outcome-refused, outcome-accepted}
 
 pub refused : (t : Bool) (n later : ℕ) → t ≡ true → n ≡ refuse t n later
