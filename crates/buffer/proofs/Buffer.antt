@@ -1,9 +1,10 @@
 -- Laws of a buffer that is written from its start, one word after another.
 -- Assumes nothing.
 use Prim.Native.Nat.{ℕ, zero, suc, _+_, _-_, _≤_, _<_}
-use native.Mathlib.Nat.{add-sub-cancel-left}
+use native.Mathlib.Nat.{add-sub-cancel-left, not-suc-le-zero, le-of-suc-le-suc, eq-or-lt-of-le}
 use native.Mathlib.Omega.{arith}
 use native.Mathlib.Numerals.{add-one}
+use mathlib.Core.Logic.{⊎-elim}
 use mathlib.Core.Path.{_≡_, refl, sym, _∙_, ap}
 use mathlib.Core.List.{List, [], _∷_, _++_, append-assoc}
 use lib.ListN.{length, take, drop, getD, set, length-append, length-drop, length-take, List·getD-append}
@@ -51,3 +52,12 @@ pub length-tabulate : (f : ℕ → ℕ) (n : ℕ) → length (tabulate f n) ≡ 
 unfolding tabulate
 length-tabulate f zero = refl
 length-tabulate f (suc n) = simp (length-append, length-tabulate f n) (add-one n)
+
+pub getD-tabulate : (f : ℕ → ℕ) (n i d : ℕ) → i < n → getD (tabulate f n) i d ≡ f i
+unfolding tabulate
+getD-tabulate f zero i d h = absurd (not-suc-le-zero h)
+getD-tabulate f (suc n) i d h =
+    ⊎-elim
+    (λ e. rw e (getD-at (tabulate f n) (f n) [] d n (length-tabulate f n)))
+    (λ l. List·getD-append (tabulate f n) (f n ∷ []) d i (rw (length-tabulate f n) l) ∙ getD-tabulate f n i d l)
+    (eq-or-lt-of-le (le-of-suc-le-suc h))

@@ -1,0 +1,108 @@
+-- The list of hashes as the code makes it: the hashes before i stand in the buffer, and rolling the hash at i gives that at i + 1.
+-- Assumes nothing.
+use Prim.Native.Nat.{ℕ, zero, suc, _+_, _-_, _%_, _^_, _≤_, _<_}
+use native.Mathlib.Nat.{sub-zero, pos-of-ne-zero}
+use native.Mathlib.Omega.{arith}
+use native.Mathlib.Numerals.{add-one}
+use mathlib.Core.Path.{_≡_, refl, sym, _∙_}
+use mathlib.Core.Bool.{not}
+use mathlib.Core.List.{List, [], _∷_, _++_}
+use lib.Dec.{eqb, ltb}
+use lib.ListN.{length, take, drop, getD, set, length-drop, length-set}
+use lib.Seq.{take-suc, drop-cons, getD-drop, length-take-le}
+use borrow.Author.Tests.{eqb-false, ltb-false}
+use Rattle.symbol.specs.Sequence.{allSound, tooLong}
+use Rattle.buffer.specs.Buffer.{onto, tabulate}
+use Rattle.buffer.proofs.Buffer.{length-tabulate, onto-more, getD-tabulate}
+use Rattle.window.specs.Hash.{hash}
+use Rattle.window.specs.HashList.{windows, hashAt, hashes, hashRefusal}
+use Rattle.window.proofs.Refusal.{clear}
+
+pub length-hashes : (B s : ℕ) (words : List ℕ) → length (hashes B s words) ≡ windows s (length words)
+length-hashes B s words = length-tabulate (hashAt B s words) (windows s (length words))
+
+pub getD-hashes : (B s : ℕ) (words : List ℕ) (i : ℕ) → i + s ≤ length words → getD (hashes B s words) i 0 ≡ hash B (take s (drop i words))
+getD-hashes B s words i h = getD-tabulate (hashAt B s words) (windows s (length words)) i 0 (omega arith)
+
+-- ---- a window of k + 1 words and the next: they share all but the first word of the one and the last of the other
+module _ (k i : ℕ) (words : List ℕ) (fits : i + suc k < length words) where
+  shared : length (take k (drop (suc i) words)) ≡ k
+  shared = length-take-le k (drop (suc i) words) (simp length-drop (omega arith))
+
+  window-first : take (suc k) (drop i words) ≡ getD words i 0 ∷ take k (drop (suc i) words)
+  window-first = rw (drop-cons words i 0 (omega arith))
+
+  window-last : take (suc k) (drop (suc i) words) ≡ take k (drop (suc i) words) ++ (getD words (i + suc k) 0 ∷ [])
+  window-last =
+      let at : suc i + k ≡ i + suc k = omega arith in
+      rw (take-suc (drop (suc i) words) k 0 (simp length-drop (omega arith)), getD-drop (suc i) words k 0, at)
+
+-- What `roll` promises of its result.
+abbrev pub Rolls : ℕ → ℕ → ℕ → ℕ → ℕ → ℕ → Type 0
+Rolls B p h outgoing incoming r = (ws : List ℕ) → h ≡ hash B (outgoing ∷ ws) → p ≡ B ^ length ws % 2 ^ 32 → r ≡ hash B (ws ++ (incoming ∷ []))
+
+hash-next : (B s : ℕ) (words : List ℕ) (p h r i : ℕ) → 1 ≤ s → p ≡ B ^ (s - 1) % 2 ^ 32 → i + s < length words → h ≡ hashAt B s words i → Rolls B p h (getD words i 0) (getD words (i + s) 0) r → r ≡ hashAt B s words (i + 1)
+hash-next B zero words p h r i least q less e roll = absurd (omega arith)
+hash-next B (suc k) words p h r i least q less e roll =
+    let one : suc k - 1 ≡ k = omega arith in
+    let rest = take k (drop (suc i) words) in
+    rw (add-one i, window-last k i words less) (roll rest (rw (← window-first k i words less) e) (rw (shared k i words less, ← one) q))
+
+-- ---- the loop of fill_hashes: the hashes before i stand in the buffer, and h is the hash at i
+pub record Filled (B s : ℕ) (words b₀ b : List ℕ) (h i : ℕ) : Type 0 where
+  pub within : i + s ≤ length words
+  pub room : windows s (length words) ≤ length b₀
+  pub held : b ≡ onto (tabulate (hashAt B s words) i) b₀
+  pub same : length b ≡ length b₀
+  pub current : h ≡ hashAt B s words i
+
+pub none-fits : (B s : ℕ) (words b : List ℕ) → length words < s → b ≡ onto (hashes B s words) b
+unfolding tabulate
+none-fits B s words b h = let none : windows s (length words) ≡ 0 = omega arith in rw none refl
+
+pub filled-none : (B s : ℕ) (words b : List ℕ) (h : ℕ) → s ≤ length words → windows s (length words) ≤ length b → h ≡ hash B (take (s - 0) (drop 0 words)) → Filled B s words b b h 0
+unfolding tabulate
+filled-none B s words b h w r e = record { within = omega arith; room = r; held = refl; same = refl; current = rw (sub-zero s) at e }
+
+module _ (B s : ℕ) (words b₀ b : List ℕ) (h i : ℕ) (inv : Filled B s words b₀ b h i) where
+  stored : set b i h ≡ onto (tabulate (hashAt B s words) (suc i)) b₀
+  unfolding tabulate
+  stored =
+      let front = tabulate (hashAt B s words) i in
+      let n : length front ≡ i = length-tabulate (hashAt B s words) i in
+      let less : length front < length b₀ = omega (arith, inv .within, inv .room) in
+      rw (← onto-more front b₀ (hashAt B s words i) less, inv .held, inv .current, n) refl
+
+  pub filled-all : (b₁ : List ℕ) → length words ≤ i + s → b₁ ≡ set b i h → b₁ ≡ onto (hashes B s words) b₀
+  filled-all b₁ all e = let last : windows s (length words) ≡ suc i = omega (arith, inv .within) in e ∙ rw last stored
+
+  pub filled-more : (p r : ℕ) → 1 ≤ s → p ≡ B ^ (s - 1) % 2 ^ 32 → i + s < length words → Rolls B p h (getD words i 0) (getD words (i + s) 0) r → Filled B s words b₀ (set b i h) r (i + 1)
+  filled-more p r least q less roll =
+      record {
+        within = omega arith;
+        room = inv .room;
+        held = rw (add-one i) stored;
+        same = length-set b i h ∙ inv .same;
+        current = hash-next B s words p h r i least q less (inv .current) roll;
+      }
+
+-- ---- what an accepted call has
+pub record Accepted (words : List ℕ) (s room : ℕ) : Type 0 where
+  pub short : length words ≤ 2048
+  pub least : 1 ≤ s
+  pub most : s ≤ 2048
+  pub fits : windows s (length words) ≤ room
+
+pub accepted : (words : List ℕ) (s room r : ℕ) → r ≡ hashRefusal words s room → r ≡ 0 → Accepted words s room
+accepted words s room r e z =
+    let long = clear (tooLong words) 1 _ (omega arith) (sym e ∙ z) in
+    let unsound = clear (not (allSound words)) 2 _ (omega arith) (long .rest) in
+    let none = clear (eqb s 0) 5 _ (omega arith) (unsound .rest) in
+    let wide = clear (ltb 2048 s) 5 _ (omega arith) (none .rest) in
+    let tight = clear (ltb room (windows s (length words))) 11 0 (omega arith) (wide .rest) in
+    record {
+      short = ltb-false _ _ (long .first);
+      least = pos-of-ne-zero (eqb-false s 0 (none .first));
+      most = ltb-false _ _ (wide .first);
+      fits = ltb-false _ _ (tight .first);
+    }

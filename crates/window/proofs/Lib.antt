@@ -1,0 +1,4 @@
+pub mod Congruence
+pub mod Hash
+pub mod Refusal
+pub mod HashList

@@ -1,0 +1,53 @@
+-- A chain of refusals link by link: a cause that holds gives its number, one that does not leaves it to the later causes.
+-- Assumes nothing.
+use Prim.Native.Nat.{ℕ, _≤_, _<_}
+use native.Mathlib.Omega.{arith}
+use mathlib.Core.Path.{_≡_, refl, sym, _∙_}
+use mathlib.Core.Bool.{Bool, true, false, not}
+use lib.Dec.{ltb}
+use borrow.Author.Tests.{lt-ltb, le-ltb, eq-eqb, ne-eqb}
+use Rattle.symbol.specs.Refusal.{refuse, outcome, counted}
+use Rattle.symbol.proofs.Refusal.{outcome-refused, outcome-accepted}
+
+pub refused : (t : Bool) (n later : ℕ) → t ≡ true → n ≡ refuse t n later
+refused t n later e = rw e
+
+pub passed : (t : Bool) (r n later : ℕ) → t ≡ false → r ≡ later → r ≡ refuse t n later
+passed t r n later e k = rw e k
+
+-- What an accepted chain says of its first cause and of the later ones.
+pub record Clear (t : Bool) (later : ℕ) : Type 0 where
+  pub first : t ≡ false
+  pub rest : later ≡ 0
+
+pub clear : (t : Bool) (n later : ℕ) → 0 < n → refuse t n later ≡ 0 → Clear t later
+clear true n later h e = absurd (omega arith)
+clear false n later h e = record { first = refl; rest = e }
+
+-- A cause that is the contrary of a test.
+pub cause-of : (r t b : Bool) → r ≡ t → not r ≡ b → not t ≡ b
+cause-of r t b e k = rw (← e) k
+
+-- A bound that was computed.
+pub short-of : (a r n : ℕ) → r ≡ n → a < r → ltb a n ≡ true
+short-of a r n e h = lt-ltb a n (rw e at h)
+
+pub enough-for : (a r n : ℕ) → r ≡ n → r ≤ a → ltb a n ≡ false
+enough-for a r n e h = le-ltb a n (rw e at h)
+
+-- What the returns of a chain of tests want.
+pub ruleset causes = (refused, passed, cause-of, short-of, enough-for, lt-ltb, le-ltb, eq-eqb, ne-eqb)
+
+-- ---- an entry point that has the refusal's number r, where q is the number by definition
+module _ (r q : ℕ) (e : r ≡ q) where
+  pub kept : {A : Type 0} (new old : A) → (r ≡ 0 → ⊥) → old ≡ outcome q new old
+  kept new old d = sym (outcome-refused q new old (λ z. d (e ∙ z)))
+
+  pub given : {A : Type 0} (x new old : A) → r ≡ 0 → x ≡ new → x ≡ outcome q new old
+  given x new old z k = k ∙ sym (outcome-accepted q new old (sym e ∙ z))
+
+  pub counted-none : (n : ℕ) → (r ≡ 0 → ⊥) → record { refusal = r; count = 0 } ≡ counted q n
+  counted-none n d = let c : 0 ≡ outcome q n 0 = kept n 0 d in cc
+
+  pub counted-all : (m n : ℕ) → r ≡ 0 → m ≡ n → record { refusal = 0; count = m } ≡ counted q n
+  counted-all m n z k = let c : m ≡ outcome q n 0 = given m n 0 z k in cc
