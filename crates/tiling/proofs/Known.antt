@@ -3,6 +3,8 @@
 use mathlib.Core.Bool.{true}
 use mathlib.Core.Path.{_≡_, refl}
 use Rattle.symbol.specs.Word.{kind, low, code, isCall, matches}
+use Rattle.buffer.specs.Buffer.{tabulate}
+use Rattle.window.specs.Hash.{weigh, hash}
 use Rattle.tiling.specs.Run.{run, mark}
 use Rattle.tiling.specs.Greedy.{peak, greedy}
 use Rattle.tiling.specs.Tiling.{bestText, rowLength, best, lay, tiling}
@@ -10,5 +12,5 @@ use Rattle.tiling.specs.Listing.{firstIsPattern, listing, tileWords, cov
 use Rattle.tiling.specs.Known.{same, sameℤ, shifted, holds, all-hold, shorter, longer, cases}
 
 pub known : all-hold cases ≡ true
-unfolding kind low code isCall matches run mark peak greedy bestText rowLength best lay tiling firstIsPattern listing tileWords covered score shift same sameℤ shifted holds all-hold shorter longer cases
+unfolding tabulate weigh hash kind low code isCall matches run mark peak greedy bestText rowLength best lay tiling firstIsPattern listing tileWords covered score shift same sameℤ shifted holds all-hold shorter longer cases
 known = refl

@@ -6,6 +6,7 @@ use mathlib.Core.List.{List, [], _∷_, _++_}
 use lib.Dec.{eqb}
 use lib.IntN.{ℤ, pos, negsuc, negℤ}
 use lib.ListN.{length}
+use Rattle.window.specs.HashList.{hashes}
 use Rattle.tiling.specs.Listing.{Entry, listing, tileWords, covered, score, shift}
 
 -- "Writing a to d for calls of codes 1 to 4 .. e is code 5, ? a no-call."
@@ -27,10 +28,12 @@ e = 2 ^ 30 + 5
 abbrev pub no-call : ℕ
 no-call = 2 ^ 31
 
--- A pair with its minimum: the words of its tile buffer, covered and score. The same pair's shifts.
+-- A pair with its minimum: the words of its tile buffer, covered and score, or the shifts of its tiles. Words with a multiplier and a
+-- window length: the hashes of their windows.
 pub data Case : Type 0 where
   pair : (first second : List ℕ) (minimum : ℕ) (tiles : List ℕ) (covered score : ℕ) → Case
   moved : (first second : List ℕ) (minimum : ℕ) (shifts : List ℤ) → Case
+  hashed : (multiplier window : ℕ) (words found : List ℕ) → Case
 
 unfoldable pub same : List ℕ → List ℕ → Bool
 same [] [] = true
@@ -56,6 +59,7 @@ holds (pair first second minimum tiles sum points) =
     && (eqb (covered (listing first second minimum)) sum
     && eqb (score (covered (listing first second minimum)) (length first + length second)) points)
 holds (moved first second minimum shifts) = shifted (listing first second minimum) shifts
+holds (hashed multiplier window words found) = same (hashes multiplier window words) found
 
 unfoldable pub all-hold : List Case → Bool
 all-hold [] = true
@@ -81,6 +85,9 @@ cases =
     ∷ pair (a ∷ a ∷ a ∷ []) (a ∷ a ∷ a ∷ []) 3 (0 ∷ 0 ∷ 3 ∷ []) 3 1000
     ∷ pair (a ∷ b ∷ a ∷ []) (a ∷ b ∷ b ∷ a ∷ []) 2 (0 ∷ 0 ∷ 2 ∷ []) 2 571
     ∷ pair (a ∷ b ∷ c ∷ d ∷ e ∷ []) (c ∷ d ∷ e ∷ a ∷ b ∷ []) 2 (2 ∷ 0 ∷ 3 ∷ 0 ∷ 3 ∷ 2 ∷ []) 5 1000
+    ∷ hashed 10 3 (1 ∷ 2 ∷ 3 ∷ 4 ∷ []) (123 ∷ 234 ∷ [])
+    ∷ hashed (2 ^ 31) 3 (1 ∷ 2 ∷ 3 ∷ []) (3 ∷ [])
+    ∷ hashed 0 3 (1 ∷ 2 ∷ 3 ∷ []) (3 ∷ [])
     ∷ pair (a ∷ a ∷ []) (a ∷ b ∷ []) 1 (0 ∷ 0 ∷ 1 ∷ []) 1 500
     ∷ moved shorter longer 1 (pos 6 ∷ pos 4 ∷ negℤ (pos 3) ∷ [])
     ∷ []
