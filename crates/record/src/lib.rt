@@ -4,7 +4,7 @@ ghost use mathlib.Core.Path.{_≡_};
 ghost use Prim.Native.Nat.{_≤_};
 ghost use lib.ListN.{length};
 ghost use mathlib.Core.List.{_∷_};
-ghost use Rattle.record.specs.Format.{trailer};
+ghost use Rattle.record.specs.Format.{header, idOf, countOf, trailer};
 ghost use Rattle.record.specs.Reading.{readRefusal, readAnswer, readBuffer};
 ghost use Rattle.record.specs.Writing.{writeRefusal, writeAnswer, writeBuffer};
 
@@ -15,6 +15,26 @@ pub struct ReadAnswer {
     pub id: u32,
     pub count: u32,
     pub used: u32,
+}
+
+// The header of an id and a count.
+fn header_of(id: u16, count: usize) -> u32
+    requires { ⌜ count ≤ 2048 ⌝ }
+    ensures { λ r. ⌜ r ≡ header id count ⌝ }
+{
+    (id as u32) * 16384 + (count as u32)
+}
+
+fn id_of(h: u32) -> u32
+    ensures { λ r. ⌜ r ≡ idOf h ⌝ }
+{
+    h % 0x4000_0000 / 16384
+}
+
+fn count_of(h: u32) -> u32
+    ensures { λ r. ⌜ r ≡ countOf h ⌝ }
+{
+    h % 16384
 }
 
 // The trailer of a header and a sequence.
@@ -41,7 +61,7 @@ fn read_refusal(src: &[u32], room: usize) -> u32
     if h / 0x4000_0000 != 0 {
         return 9;
     }
-    let count = (h % 16384) as usize;
+    let count = count_of(h) as usize;
     if 2048 < count {
         return 9;
     }
@@ -77,12 +97,11 @@ pub fn read(src: &[u32], buffer: &mut [u32]) -> ReadAnswer
         };
     }
     let h = src[0];
-    let count = h % 16384;
-    let n = count as usize;
-    buffer::copy(&src[1..n + 1], buffer);
+    let count = count_of(h);
+    buffer::copy(&src[1..(count as usize) + 1], buffer);
     ReadAnswer {
         refusal: 0,
-        id: h / 16384,
+        id: id_of(h),
         count,
         used: count + 2,
     }
@@ -115,7 +134,7 @@ pub fn write(id: u16, s: &[u32], buffer: &mut [u32]) -> Counted
         return Counted { refusal, count: 0 };
     }
     let n = s.len();
-    let h = (id as u32) * 16384 + (n as u32);
+    let h = header_of(id, n);
     buffer::put(buffer, 0, h);
     buffer::copy(s, &mut buffer[1..n + 1]);
     buffer::put(buffer, n + 1, trailer_of(h, s));
