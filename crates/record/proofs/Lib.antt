@@ -1,2 +1,4 @@
 pub mod Format
 pub mod Refusal
+pub mod Reading
+pub mod Writing

@@ -4,6 +4,8 @@ use Prim.Native.Nat.{ℕ, _<_}
 use native.Mathlib.Omega.{arith}
 use mathlib.Core.Path.{_≡_, refl}
 use mathlib.Core.Bool.{Bool, true, false, not}
+use lib.Dec.{eqb}
+use borrow.Author.Tests.{eq-eqb, ne-eqb}
 use Rattle.symbol.specs.Refusal.{refuse}
 
 pub refused : (t : Bool) (n later : ℕ) → t ≡ true → n ≡ refuse t n later
@@ -21,6 +23,12 @@ pub clear : (t : Bool) (n later : ℕ) → 0 < n → refuse t n later ≡ 0 → 
 clear true n later h e = absurd (omega arith)
 clear false n later h e = record { first = refl; rest = e }
 
--- A cause that the code learns from a call, `if !f(..)`.
+-- ---- causes that are the contrary of a test
 pub cause-of : (r t b : Bool) → r ≡ t → not r ≡ b → not t ≡ b
 cause-of r t b e k = rw (← e) k
+
+pub differs : (a b : ℕ) → (a ≡ b → ⊥) → not (eqb a b) ≡ true
+differs a b d = rw (ne-eqb a b d) refl
+
+pub agrees : (a b : ℕ) → a ≡ b → not (eqb a b) ≡ false
+agrees a b e = rw (eq-eqb a b e) refl
