@@ -1,15 +1,15 @@
 -- The record format as numbers: a header splits into its id and its count, a trailer is one number, and a checksum grows word by word.
 -- Assumes nothing.
 use Prim.Native.Nat.{ℕ, _+_, _*_, _%_, _^_, _≤_, _<_}
-use native.Mathlib.Nat.{add-assoc, mod-add-mod}
+use native.Mathlib.Nat.{add-assoc}
 use native.Mathlib.Omega.{arith}
 use native.Mathlib.Numerals.{add-one}
-use mathlib.Core.Path.{_≡_, refl, sym, _∙_, ap}
+use mathlib.Core.Path.{_≡_, refl, sym}
 use mathlib.Core.List.{List, [], _∷_, _++_}
 use lib.ListN.{length, take, getD}
 use lib.Seq.{take-suc, take-all}
 use Rattle.symbol.specs.Word.{kind, low}
-use Rattle.record.specs.Format.{header, idOf, countOf, sumLow, checksum, trailer, encode}
+use Rattle.record.specs.Format.{header, idOf, countOf, sumLow, checksum, trailer}
 
 -- ---- the header
 pub id-header : (id n : ℕ) → id < 2 ^ 16 → n < 2 ^ 14 → idOf (header id n) ≡ id
@@ -32,10 +32,6 @@ header-parts h e = omega arith
 pub id-small : (h : ℕ) → idOf h < 2 ^ 16
 unfolding idOf low
 id-small h = omega arith
-
-pub count-small : (h : ℕ) → countOf h < 2 ^ 14
-unfolding countOf
-count-small h = omega arith
 
 -- ---- the trailer
 pub kind-trailer : (ws : List ℕ) → kind (trailer ws) ≡ 3

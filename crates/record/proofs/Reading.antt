@@ -1,20 +1,20 @@
 -- Why the code's tests are the causes of readRefusal: the part that it hands on is the sequence, and a word has kind 3 and the right sum just when it is the trailer.
 -- Assumes nothing.
-use Prim.Native.Nat.{ℕ, _+_, _-_, _^_, _≤_, _<_}
+use Prim.Native.Nat.{ℕ, _+_, _-_, _≤_}
 use native.Mathlib.Omega.{arith}
 use native.Mathlib.Numerals.{add-one}
 use mathlib.Core.Path.{_≡_, refl, sym, _∙_, ap}
-use mathlib.Core.Bool.{Bool, true, false, not, _&&_}
-use mathlib.Core.List.{List, [], _∷_, _++_}
-use lib.Dec.{eqb, ltb, lit<}
+use mathlib.Core.Bool.{Bool, true, false, not}
+use mathlib.Core.List.{List, [], _∷_}
+use lib.Dec.{eqb, lit<}
 use lib.ListN.{length, getD, take, drop}
-use borrow.Author.Tests.{eq-eqb, ne-eqb, le-ltb, eqb-true, eqb-false, ltb-false, not-false}
+use borrow.Author.Tests.{eq-eqb, ne-eqb, le-ltb, eqb-true, ltb-false, not-false}
 use Rattle.symbol.specs.Word.{kind, low}
 use Rattle.symbol.specs.Sequence.{allSound}
 use Rattle.symbol.proofs.Word.{and-both, and-left, and-right}
 use Rattle.symbol.proofs.Refusal.{outcome-refused}
 use Rattle.buffer.specs.Buffer.{onto}
-use Rattle.record.specs.Format.{idOf, countOf, checksum, trailer}
+use Rattle.record.specs.Format.{idOf, trailer}
 use Rattle.record.specs.Reading.{head, count, sequence, closes, readRefusal, readAnswer, readBuffer}
 use Rattle.record.proofs.Format.{kind-trailer, low-trailer, trailer-parts}
 use Rattle.record.proofs.Refusal.{clear}

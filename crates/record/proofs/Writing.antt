@@ -3,15 +3,14 @@
 use Prim.Native.Nat.{ℕ, _+_, _-_, _≤_}
 use native.Mathlib.Omega.{arith}
 use native.Mathlib.Numerals.{add-one}
-use mathlib.Core.Path.{_≡_, refl, sym, _∙_, ap}
+use mathlib.Core.Path.{_≡_, refl, _∙_, ap}
 use mathlib.Core.Bool.{true}
 use mathlib.Core.List.{List, [], _∷_, _++_}
 use lib.Dec.{lit<}
 use lib.ListN.{length, take, drop, set}
 use borrow.Author.Tests.{le-ltb, ltb-false, not-false}
 use Rattle.symbol.specs.Sequence.{allSound}
-use Rattle.symbol.specs.declared.Counted.{Counted}
-use Rattle.symbol.proofs.Refusal.{outcome-refused, outcome-accepted}
+use Rattle.symbol.proofs.Refusal.{outcome-refused}
 use Rattle.buffer.specs.Buffer.{onto}
 use Rattle.buffer.proofs.Buffer.{onto-more, onto-part}
 use Rattle.record.specs.Format.{header, trailer, encode}
