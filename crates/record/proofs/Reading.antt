@@ -1,4 +1,4 @@
--- Why the code's tests are the causes of readRefusal: the part that it hands on is the sequence, and a word has kind 3 and the right sum just when it is the trailer.
+-- Why the code's tests are the causes of readRefusal (the part handed on is the sequence, and a word has kind 3 and the right sum just when it is the trailer), and what an accepted src is known to be.
 -- Assumes nothing.
 use Prim.Native.Nat.{ℕ, _+_, _-_, _≤_}
 use native.Mathlib.Omega.{arith}
