@@ -6,9 +6,9 @@ use native.Mathlib.Omega.{arith}
 use native.Mathlib.Numerals.{add-one}
 use mathlib.Core.Logic.{⊎-elim}
 use mathlib.Core.Path.{_≡_, refl, sym, _∙_, ap}
-use mathlib.Core.List.{List, [], _∷_, _++_, append-assoc}
-use lib.ListN.{length, take, drop, getD, set, length-append, length-drop, length-take, List·getD-append}
-use lib.Seq.{drop-cons, take-suc, take-all, set-at, length-take-le, getD-at}
+use mathlib.Core.List.{List, [], _∷_, _++_, append-assoc, append-nil}
+use lib.ListN.{length, take, drop, getD, set, length-append, length-drop, length-take, drop-of-length-le, List·getD-append}
+use lib.Seq.{drop-cons, take-suc, take-all, set-at, length-take-le, getD-at, take-at, drop-at, drop-drop}
 use Rattle.buffer.specs.Buffer.{onto, tabulate}
 
 pub length-onto : (front b : List ℕ) → length front ≤ length b → length (onto front b) ≡ length b
@@ -19,6 +19,22 @@ pub onto-more : (front b : List ℕ) (v : ℕ) → length front < length b → s
 onto-more front b v h =
     let n : length (front ++ (v ∷ [])) ≡ suc (length front) = simp length-append (add-one (length front)) in
     rw (drop-cons b (length front) 0 h, set-at front (getD b (length front) 0) (drop (suc (length front)) b) v (length front) refl, n, append-assoc) refl
+
+-- Words copied to the part that begins after those written.
+pub onto-part : (front s b : List ℕ) (k : ℕ) → length front ≡ k → take k (onto front b) ++ (onto s (take (length s) (drop k (onto front b))) ++ drop (length s) (drop k (onto front b))) ≡ onto (front ++ s) b
+onto-part front s b k e =
+    let none : drop (length s) (take (length s) (drop (length front) b)) ≡ [] =
+    drop-of-length-le (take (length s) (drop (length front) b)) {i = length s} (simp length-take (omega arith)) in
+    rw (
+      take-at front (drop (length front) b) k e,
+      drop-at front (drop (length front) b) k e,
+      none,
+      drop-drop (length s) (length front) b,
+      append-nil s,
+      length-append front s,
+      append-assoc,
+    )
+    refl
 
 -- ---- copying: the first i words stand in the buffer
 pub record Copied (words b₀ b : List ℕ) (i : ℕ) : Type 0 where

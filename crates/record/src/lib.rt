@@ -1,10 +1,11 @@
 // Reads and writes records: a header with id and count, a sequence, a trailer with a checksum.
 use symbol::Counted;
 ghost use mathlib.Core.Path.{_≡_};
-ghost use Prim.Native.Nat.{_≤_};
+ghost use Prim.Native.Nat.{_+_, _≤_};
 ghost use lib.ListN.{length};
-ghost use mathlib.Core.List.{_∷_};
-ghost use Rattle.record.specs.Format.{trailer};
+ghost use mathlib.Core.List.{[], _∷_, _++_};
+ghost use Rattle.buffer.specs.Buffer.{onto};
+ghost use Rattle.record.specs.Format.{header, trailer};
 ghost use Rattle.record.specs.Reading.{readRefusal, readAnswer, readBuffer};
 ghost use Rattle.record.specs.Writing.{writeRefusal, writeAnswer, writeBuffer};
 
@@ -15,6 +16,14 @@ pub struct ReadAnswer {
     pub id: u32,
     pub count: u32,
     pub used: u32,
+}
+
+// The header of an id and a count.
+fn header_of(id: u16, count: usize) -> u32
+    requires { ⌜ count ≤ 2048 ⌝ }
+    ensures { λ r. ⌜ r ≡ header id count ⌝ }
+{
+    (id as u32) * 16384 + (count as u32)
 }
 
 // The trailer of a header and a sequence.
@@ -78,11 +87,10 @@ pub fn read(src: &[u32], buffer: &mut [u32]) -> ReadAnswer
     }
     let h = src[0];
     let count = h % 16384;
-    let n = count as usize;
-    buffer::copy(&src[1..n + 1], buffer);
+    buffer::copy(&src[1..(count as usize) + 1], buffer);
     ReadAnswer {
         refusal: 0,
-        id: h / 16384,
+        id: h % 0x4000_0000 / 16384,
         count,
         used: count + 2,
     }
@@ -104,6 +112,17 @@ fn write_refusal(s: &[u32], room: usize) -> u32
     0
 }
 
+// Stores a header, a sequence and a trailer, one after another.
+fn store(h: u32, s: &[u32], t: u32, buffer: &mut [u32])
+    requires { ⌜ length (now s) + 2 ≤ length (now buffer) ⌝ }
+    ensures { λ r. ⌜ now (buffer .exit) ≡ onto (h ∷ now (s .entry) ++ (t ∷ [])) (now (buffer .entry)) ⌝ }
+{
+    let n = s.len();
+    buffer::put(buffer, 0, h);
+    buffer::copy(s, &mut buffer[1..n + 1]);
+    buffer::put(buffer, n + 1, t);
+}
+
 // Writes the record of an id and a sequence to the start of buffer and answers how many words it wrote. Refused: 1 for more
 // than 2,048 words, 2 for an unsound word, 11 where buffer is too short; buffer is then as it was.
 pub fn write(id: u16, s: &[u32], buffer: &mut [u32]) -> Counted
@@ -114,13 +133,10 @@ pub fn write(id: u16, s: &[u32], buffer: &mut [u32]) -> Counted
     if refusal != 0 {
         return Counted { refusal, count: 0 };
     }
-    let n = s.len();
-    let h = (id as u32) * 16384 + (n as u32);
-    buffer::put(buffer, 0, h);
-    buffer::copy(s, &mut buffer[1..n + 1]);
-    buffer::put(buffer, n + 1, trailer_of(h, s));
+    let h = header_of(id, s.len());
+    store(h, s, trailer_of(h, s), buffer);
     Counted {
         refusal: 0,
-        count: (n as u32) + 2,
+        count: (s.len() as u32) + 2,
     }
 }

@@ -1,0 +1,5 @@
+pub mod Format
+pub mod Refusal
+pub mod Reading
+pub mod Writing
+pub mod RoundTrip

@@ -1,0 +1,111 @@
+-- Why the code's tests are the causes of readRefusal (the part handed on is the sequence, and a word has kind 3 and the right sum just when it is the trailer), and what an accepted src is known to be.
+-- Assumes nothing.
+use Prim.Native.Nat.{ℕ, _+_, _-_, _≤_}
+use native.Mathlib.Omega.{arith}
+use native.Mathlib.Numerals.{add-one}
+use mathlib.Core.Path.{_≡_, refl, sym, _∙_, ap}
+use mathlib.Core.Bool.{Bool, true, false, not}
+use mathlib.Core.List.{List, [], _∷_}
+use lib.Dec.{eqb, lit<}
+use lib.ListN.{length, getD, take, drop}
+use borrow.Author.Tests.{eq-eqb, ne-eqb, le-ltb, eqb-true, ltb-false, not-false}
+use Rattle.symbol.specs.Word.{kind, low}
+use Rattle.symbol.specs.Sequence.{allSound}
+use Rattle.symbol.proofs.Word.{and-both, and-left, and-right}
+use Rattle.symbol.proofs.Refusal.{outcome-refused}
+use Rattle.buffer.specs.Buffer.{onto}
+use Rattle.record.specs.Format.{idOf, trailer}
+use Rattle.record.specs.Reading.{head, count, sequence, closes, readRefusal, readAnswer, readBuffer}
+use Rattle.record.proofs.Format.{kind-trailer, low-trailer, trailer-parts}
+use Rattle.record.proofs.Refusal.{clear}
+
+-- The first n + 1 words are the header and the n words after it.
+pub take-head : (src : List ℕ) (n : ℕ) → (length src ≡ 0 → ⊥) → take (n + 1) src ≡ head src ∷ take n (drop 1 src)
+take-head [] n d = absurd (d refl)
+take-head (h ∷ src) n d = rw (add-one n) refl
+
+-- src[1..n + 1] is the n words after the header.
+pub part-words : (src : List ℕ) (n : ℕ) → take (n + 1 - 1) (drop 1 src) ≡ take n (drop 1 src)
+part-words src n = let e : n + 1 - 1 ≡ n = omega arith in rw e refl
+
+pub sound-cause : (src : List ℕ) (n : ℕ) (r b : Bool) → r ≡ allSound (take (n + 1 - 1) (drop 1 src)) → not r ≡ b → not (allSound (take n (drop 1 src))) ≡ b
+sound-cause src n r b e k = rw (← part-words src n, ← e) k
+
+-- ---- the trailer
+pub closes-trailer : (src : List ℕ) → closes src ≡ true → getD src (count src + 1) 0 ≡ trailer (take (count src + 1) src)
+unfolding closes
+closes-trailer src e = trailer-parts _ _ (eqb-true _ _ (and-left _ _ e)) (eqb-true _ _ (and-right (eqb (kind (getD src (count src + 1) 0)) 3) _ e))
+
+pub trailer-closes : (src : List ℕ) → getD src (count src + 1) 0 ≡ trailer (take (count src + 1) src) → closes src ≡ true
+unfolding closes
+trailer-closes src e =
+    and-both
+    (eq-eqb _ _ (ap kind e ∙ kind-trailer (take (count src + 1) src)))
+    (eq-eqb _ _ (ap low e ∙ low-trailer (take (count src + 1) src)))
+
+module _ (src : List ℕ) (t : ℕ) (d : length src ≡ 0 → ⊥) (e : t ≡ trailer (head src ∷ take (count src + 1 - 1) (drop 1 src))) where
+  is-trailer : t ≡ trailer (take (count src + 1) src)
+  is-trailer = rw (take-head src (count src) d, ← part-words src (count src)) e
+
+  pub close-passed : getD src (count src + 1) 0 ≡ t → not (closes src) ≡ false
+  close-passed k = rw (trailer-closes src (k ∙ is-trailer)) refl
+
+  pub close-refused : (getD src (count src + 1) 0 ≡ t → ⊥) → not (closes src) ≡ true
+  close-refused k = go (closes src) refl
+    where
+      go : (b : Bool) → closes src ≡ b → not b ≡ true
+      go true c = absurd (k (closes-trailer src c ∙ sym is-trailer))
+      go false c = refl
+
+-- ---- what an accepted src is known to be
+pub record Accepted (src : List ℕ) (room : ℕ) : Type 0 where
+  pub headed : kind (head src) ≡ 0
+  pub short : count src ≤ 2048
+  pub whole : count src + 2 ≤ length src
+  pub sound : allSound (sequence src) ≡ true
+  pub closed : closes src ≡ true
+  pub fits : count src ≤ room
+
+pub accepted : (src : List ℕ) (room : ℕ) → readRefusal src room ≡ 0 → Accepted src room
+accepted src room e =
+    let a = clear (eqb (length src) 0) 8 _ (lit< tt) e in
+    let b = clear _ 9 _ (lit< tt) (a .rest) in
+    let c = clear _ 9 _ (lit< tt) (b .rest) in
+    let d = clear _ 8 _ (lit< tt) (c .rest) in
+    let f = clear _ 2 _ (lit< tt) (d .rest) in
+    let g = clear _ 10 _ (lit< tt) (f .rest) in
+    let h = clear _ 11 _ (lit< tt) (g .rest) in
+    record {
+      headed = eqb-true _ _ (not-false _ (b .first));
+      short = ltb-false _ _ (c .first);
+      whole = ltb-false _ _ (d .first);
+      sound = not-false _ (f .first);
+      closed = not-false _ (g .first);
+      fits = ltb-false _ _ (h .first);
+    }
+
+pub read-accepts : (src : List ℕ) (room : ℕ) → Accepted src room → readRefusal src room ≡ 0
+read-accepts src room a =
+    rw (
+      ne-eqb (length src) 0 (λ z. omega (arith, a .whole)),
+      eq-eqb (kind (head src)) 0 (a .headed),
+      le-ltb 2048 (count src) (a .short),
+      le-ltb (length src) (count src + 2) (a .whole),
+      a .sound,
+      a .closed,
+      le-ltb room (count src) (a .fits),
+    )
+    refl
+
+-- ---- what read answers and leaves
+pub read-refused : (src : List ℕ) (room r : ℕ) → r ≡ readRefusal src room → (r ≡ 0 → ⊥) → record { refusal = r; id = 0; count = 0; used = 0 } ≡ readAnswer src room
+read-refused src room r e d = rw (← e, outcome-refused r (idOf (head src)) 0 d, outcome-refused r (count src) 0 d, outcome-refused r (count src + 2) 0 d) refl
+
+pub read-kept : (src b : List ℕ) (r : ℕ) → r ≡ readRefusal src (length b) → (r ≡ 0 → ⊥) → b ≡ readBuffer src b
+read-kept src b r e d = rw (← e, outcome-refused r (onto (sequence src) b) b d) refl
+
+pub read-accepted : (src : List ℕ) (room r : ℕ) → r ≡ readRefusal src room → r ≡ 0 → record { refusal = 0; id = idOf (head src); count = count src; used = count src + 2 } ≡ readAnswer src room
+read-accepted src room r e z = rw (← e, z) refl
+
+pub read-copied : (src b b′ : List ℕ) (r : ℕ) → r ≡ readRefusal src (length b) → r ≡ 0 → b′ ≡ onto (take (count src + 1 - 1) (drop 1 src)) b → b′ ≡ readBuffer src b
+read-copied src b b′ r e z k = rw (← e, z, k, part-words src (count src)) refl
