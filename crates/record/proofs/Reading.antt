@@ -12,12 +12,11 @@ use borrow.Author.Tests.{eq-eqb, ne-eqb, le-ltb, eqb-true, ltb-false, not-false}
 use Rattle.symbol.specs.Word.{kind, low}
 use Rattle.symbol.specs.Sequence.{allSound}
 use Rattle.symbol.proofs.Word.{and-both, and-left, and-right}
-use Rattle.symbol.proofs.Refusal.{outcome-refused}
 use Rattle.buffer.specs.Buffer.{onto}
 use Rattle.record.specs.Format.{idOf, trailer}
-use Rattle.record.specs.Reading.{head, count, sequence, closes, readRefusal, readAnswer, readBuffer}
+use Rattle.record.specs.Reading.{head, count, sequence, closes, readRefusal, readAnswer}
 use Rattle.record.proofs.Format.{kind-trailer, low-trailer, trailer-parts}
-use Rattle.record.proofs.Refusal.{clear}
+use Rattle.symbol.proofs.Refusal.{clear, outcome-refused}
 
 -- The first n + 1 words are the header and the n words after it.
 pub take-head : (src : List ℕ) (n : ℕ) → (length src ≡ 0 → ⊥) → take (n + 1) src ≡ head src ∷ take n (drop 1 src)
@@ -98,14 +97,12 @@ read-accepts src room a =
     refl
 
 -- ---- what read answers and leaves
-pub read-refused : (src : List ℕ) (room r : ℕ) → r ≡ readRefusal src room → (r ≡ 0 → ⊥) → record { refusal = r; id = 0; count = 0; used = 0 } ≡ readAnswer src room
-read-refused src room r e d = rw (← e, outcome-refused r (idOf (head src)) 0 d, outcome-refused r (count src) 0 d, outcome-refused r (count src + 2) 0 d) refl
+module _ (src : List ℕ) (room r : ℕ) (e : r ≡ readRefusal src room) where
+  pub read-refused : (r ≡ 0 → ⊥) → record { refusal = r; id = 0; count = 0; used = 0 } ≡ readAnswer src room
+  read-refused d = rw (← e, outcome-refused r (idOf (head src)) 0 d, outcome-refused r (count src) 0 d, outcome-refused r (count src + 2) 0 d) refl
 
-pub read-kept : (src b : List ℕ) (r : ℕ) → r ≡ readRefusal src (length b) → (r ≡ 0 → ⊥) → b ≡ readBuffer src b
-read-kept src b r e d = rw (← e, outcome-refused r (onto (sequence src) b) b d) refl
+  pub read-accepted : r ≡ 0 → record { refusal = 0; id = idOf (head src); count = count src; used = count src + 2 } ≡ readAnswer src room
+  read-accepted z = rw (← e, z) refl
 
-pub read-accepted : (src : List ℕ) (room r : ℕ) → r ≡ readRefusal src room → r ≡ 0 → record { refusal = 0; id = idOf (head src); count = count src; used = count src + 2 } ≡ readAnswer src room
-read-accepted src room r e z = rw (← e, z) refl
-
-pub read-copied : (src b b′ : List ℕ) (r : ℕ) → r ≡ readRefusal src (length b) → r ≡ 0 → b′ ≡ onto (take (count src + 1 - 1) (drop 1 src)) b → b′ ≡ readBuffer src b
-read-copied src b b′ r e z k = rw (← e, z, k, part-words src (count src)) refl
+pub read-copied : (src b b′ : List ℕ) → b′ ≡ onto (take (count src + 1 - 1) (drop 1 src)) b → b′ ≡ onto (sequence src) b
+read-copied src b b′ k = rw (k, part-words src (count src)) refl

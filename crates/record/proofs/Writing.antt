@@ -10,12 +10,11 @@ use lib.Dec.{lit<}
 use lib.ListN.{length, take, drop, set}
 use borrow.Author.Tests.{le-ltb, ltb-false, not-false}
 use Rattle.symbol.specs.Sequence.{allSound}
-use Rattle.symbol.proofs.Refusal.{outcome-refused}
 use Rattle.buffer.specs.Buffer.{onto}
 use Rattle.buffer.proofs.Buffer.{onto-more, onto-part}
 use Rattle.record.specs.Format.{header, trailer, encode}
-use Rattle.record.specs.Writing.{writeRefusal, writeAnswer, writeBuffer}
-use Rattle.record.proofs.Refusal.{clear}
+use Rattle.record.specs.Writing.{writeRefusal}
+use Rattle.symbol.proofs.Refusal.{clear}
 
 -- A sequence that can be written to room words.
 pub record Writable (s : List ℕ) (room : ℕ) : Type 0 where
@@ -37,24 +36,15 @@ writable s room e =
 pub write-accepts : (s : List ℕ) (room : ℕ) → Writable s room → writeRefusal s room ≡ 0
 write-accepts s room w = rw (le-ltb 2048 (length s) (w .short), w .sound, le-ltb room (length s + 2) (w .fits)) refl
 
--- ---- what write answers and leaves
-pub write-refused : (s : List ℕ) (room r : ℕ) → r ≡ writeRefusal s room → (r ≡ 0 → ⊥) → record { refusal = r; count = 0 } ≡ writeAnswer s room
-write-refused s room r e d = rw (← e, outcome-refused r (length s + 2) 0 d) refl
-
-pub write-kept : (id : ℕ) (s b : List ℕ) (r : ℕ) → r ≡ writeRefusal s (length b) → (r ≡ 0 → ⊥) → b ≡ writeBuffer id s b
-write-kept id s b r e d = rw (← e, outcome-refused r (onto (encode id s) b) b d) refl
-
-pub write-accepted : (s : List ℕ) (room r : ℕ) → r ≡ writeRefusal s room → r ≡ 0 → record { refusal = 0; count = length s + 2 } ≡ writeAnswer s room
-write-accepted s room r e z = rw (← e, z) refl
-
+-- ---- what write stores
 pub encodes : (id h t : ℕ) (s : List ℕ) → h ≡ header id (length s) → t ≡ trailer (h ∷ s) → h ∷ s ++ (t ∷ []) ≡ encode id s
 unfolding encode
 encodes id h t s p q = rw (q, p) refl
 
-pub write-written : (id h t : ℕ) (s b b′ : List ℕ) (r : ℕ) → r ≡ writeRefusal s (length b) → r ≡ 0 → h ≡ header id (length s) → t ≡ trailer (h ∷ s) → b′ ≡ onto (h ∷ s ++ (t ∷ [])) b → b′ ≡ writeBuffer id s b
-write-written id h t s b b′ r e z p q k = rw (← e, z) (k ∙ ap (λ (words : List ℕ). onto words b) (encodes id h t s p q))
+pub written : (id h t : ℕ) (s b b′ : List ℕ) → h ≡ header id (length s) → t ≡ trailer (h ∷ s) → b′ ≡ onto (h ∷ s ++ (t ∷ [])) b → b′ ≡ onto (encode id s) b
+written id h t s b b′ p q k = k ∙ ap (λ (words : List ℕ). onto words b) (encodes id h t s p q)
 
--- ---- the stores: a word, a part, a word
+-- Its stores: a word, a part, a word.
 pub stored : (h t : ℕ) (s b b₁ part b₂ : List ℕ) → length s + 2 ≤ length b → b₁ ≡ set b 0 h → part ≡ onto s (take (length s + 1 - 1) (drop 1 b₁)) → b₂ ≡ set (take 1 b₁ ++ (part ++ drop (length s + 1 - 1) (drop 1 b₁))) (length s + 1) t → b₂ ≡ onto (h ∷ s ++ (t ∷ [])) b
 stored h t s b b₁ part b₂ fits p q k =
     let n : length s + 1 - 1 ≡ length s = omega arith in

@@ -1,9 +1,52 @@
--- What an outcome is after acceptance and after a refusal.
+-- A chain of refusals link by link: a cause that holds gives its number, one that does not leaves it to the later causes. And what an
+-- entry point gives that has branched on the number.
 -- Assumes nothing.
-use Prim.Native.Nat.{ℕ, zero, suc}
-use mathlib.Core.Path.{_≡_, refl}
-use Rattle.symbol.specs.Refusal.{refuse, outcome}
+use Prim.Native.Nat.{ℕ, zero, suc, _≤_, _<_}
+use native.Mathlib.Omega.{arith}
+use mathlib.Core.Path.{_≡_, refl, sym, _∙_}
+use mathlib.Core.Bool.{Bool, true, false, not}
+use lib.Dec.{eqb, ltb}
+use borrow.Author.Tests.{lt-ltb, le-ltb, eq-eqb, ne-eqb}
+use Rattle.symbol.specs.Refusal.{refuse, outcome, counted}
 
+-- ---- a chain
+pub refused : (t : Bool) (n later : ℕ) → t ≡ true → n ≡ refuse t n later
+refused t n later e = rw e
+
+pub passed : (t : Bool) (r n later : ℕ) → t ≡ false → r ≡ later → r ≡ refuse t n later
+passed t r n later e k = rw e k
+
+-- What an accepted chain says of its first cause and of the later ones.
+pub record Clear (t : Bool) (later : ℕ) : Type 0 where
+  pub first : t ≡ false
+  pub rest : later ≡ 0
+
+pub clear : (t : Bool) (n later : ℕ) → 0 < n → refuse t n later ≡ 0 → Clear t later
+clear true n later h e = absurd (omega arith)
+clear false n later h e = record { first = refl; rest = e }
+
+-- ---- causes as the code tests them
+-- The contrary of a test.
+pub cause-of : (r t b : Bool) → r ≡ t → not r ≡ b → not t ≡ b
+cause-of r t b e k = rw (← e) k
+
+pub differs : (a b : ℕ) → (a ≡ b → ⊥) → not (eqb a b) ≡ true
+differs a b d = rw (ne-eqb a b d) refl
+
+pub agrees : (a b : ℕ) → a ≡ b → not (eqb a b) ≡ false
+agrees a b e = rw (eq-eqb a b e) refl
+
+-- A bound that was computed.
+pub short-of : (a r n : ℕ) → r ≡ n → a < r → ltb a n ≡ true
+short-of a r n e h = lt-ltb a n (rw e at h)
+
+pub enough-for : (a r n : ℕ) → r ≡ n → r ≤ a → ltb a n ≡ false
+enough-for a r n e h = le-ltb a n (rw e at h)
+
+-- What the returns of a chain of tests want.
+pub ruleset causes = (refused, passed, cause-of, differs, agrees, short-of, enough-for, lt-ltb, le-ltb, eq-eqb, ne-eqb)
+
+-- ---- an outcome
 pub outcome-refused : {A : Type 0} (r : ℕ) (new old : A) → (r ≡ 0 → ⊥) → outcome r new old ≡ old
 outcome-refused zero new old d = absurd (d refl)
 outcome-refused (suc r) new old d = refl
@@ -11,3 +54,17 @@ outcome-refused (suc r) new old d = refl
 pub outcome-accepted : {A : Type 0} (r : ℕ) (new old : A) → r ≡ 0 → outcome r new old ≡ new
 outcome-accepted zero new old e = refl
 outcome-accepted (suc r) new old e = cc
+
+-- An entry point has the refusal's number r, where q is the number by definition.
+module _ (r q : ℕ) (e : r ≡ q) where
+  pub kept : {A : Type 0} (new old : A) → (r ≡ 0 → ⊥) → old ≡ outcome q new old
+  kept new old d = sym (outcome-refused q new old (λ z. d (e ∙ z)))
+
+  pub given : {A : Type 0} (x new old : A) → r ≡ 0 → x ≡ new → x ≡ outcome q new old
+  given x new old z k = k ∙ sym (outcome-accepted q new old (sym e ∙ z))
+
+  pub counted-none : (n : ℕ) → (r ≡ 0 → ⊥) → record { refusal = r; count = 0 } ≡ counted q n
+  counted-none n d = let c : 0 ≡ outcome q n 0 = kept n 0 d in cc
+
+  pub counted-all : (m n : ℕ) → r ≡ 0 → m ≡ n → record { refusal = 0; count = m } ≡ counted q n
+  counted-all m n z k = let c : m ≡ outcome q n 0 = given m n 0 z k in cc

@@ -16,7 +16,7 @@ use Rattle.buffer.specs.Buffer.{onto, tabulate}
 use Rattle.buffer.proofs.Buffer.{length-tabulate, onto-more, getD-tabulate}
 use Rattle.window.specs.Hash.{hash}
 use Rattle.window.specs.HashList.{windows, hashAt, hashes, hashRefusal}
-use Rattle.window.proofs.Refusal.{clear}
+use Rattle.symbol.proofs.Refusal.{clear}
 
 pub length-hashes : (B s : ℕ) (words : List ℕ) → length (hashes B s words) ≡ windows s (length words)
 length-hashes B s words = length-tabulate (hashAt B s words) (windows s (length words))

@@ -1,4 +1,3 @@
 pub mod Congruence
 pub mod Hash
-pub mod Refusal
 pub mod HashList

@@ -4,8 +4,9 @@ use native.Mathlib.Omega.{arith}
 use mathlib.Core.Path.{sym, _∙_}
 use lib.ListN.{length, length-take, length-drop}
 use Rattle.symbol.specs.Word.{low}
+use Rattle.symbol.proofs.Refusal.{kept, given}
 use Rattle.record.specs.Format.{idOf, countOf}
-use Rattle.record.proofs.Reading.{Accepted, accepted, read-refused, read-kept, read-accepted, read-copied}
+use Rattle.record.proofs.Reading.{Accepted, accepted, read-refused, read-accepted, read-copied}
 use borrow.Author.Needs.{needs}
 use Rattle.record.proofs.read.Statement.{statement}
 use Rattle.record.proofs.read.Tie as tie
@@ -18,7 +19,7 @@ here : (c : tie.Else1) → Accepted (c .before .before .before .before .args .sr
 here c = accepted _ _ (sym (c .before .read-refusal .ensures) ∙ c .if1 .left)
 
 returns : tie.Need-returns
-returns c = (search read-refused, search read-kept)
+returns c = (search read-refused, search kept)
 
 shared-slice-read-h : tie.Need-shared-slice-read-h
 shared-slice-read-h c = omega (arith, here (c .before))
@@ -51,7 +52,7 @@ same-length c = search needs
 
 returns-2 : tie.Need-returns-2
 unfolding idOf low countOf
-returns-2 c = (search read-accepted, search read-copied)
+returns-2 c = (search read-accepted, search (given, read-copied))
 
 pub read-spec : {M : Type 1} → statement M
 read-spec =

@@ -1,9 +1,8 @@
 -- `record::read_refusal` meets its contract: it tests the causes in the order of the chain.
 -- Assumes nothing.
-use borrow.Author.Tests.{eq-eqb, ne-eqb, lt-ltb, le-ltb}
 use Rattle.symbol.specs.Word.{kind}
 use Rattle.record.specs.Format.{countOf}
-use Rattle.record.proofs.Refusal.{refused, passed, agrees, differs}
+use Rattle.symbol.proofs.Refusal.{causes}
 use Rattle.record.proofs.Reading.{sound-cause, close-passed, close-refused}
 use borrow.Author.Needs.{needs}
 use Rattle.record.proofs.read_refusal.Statement.{statement}
@@ -11,28 +10,28 @@ use Rattle.record.proofs.read_refusal.Tie as tie
 
 returns : tie.Need-returns
 unfolding kind countOf
-returns c = search (refused, eq-eqb)
+returns c = search causes
 
 shared-slice-read-h : tie.Need-shared-slice-read-h
 shared-slice-read-h c = search needs
 
 returns-2 : tie.Need-returns-2
 unfolding kind countOf
-returns-2 c = search (refused, passed, ne-eqb, differs)
+returns-2 c = search causes
 
 cast-count : tie.Need-cast-count
 cast-count c = search needs
 
 returns-3 : tie.Need-returns-3
 unfolding kind countOf
-returns-3 c = search (refused, passed, ne-eqb, agrees, lt-ltb)
+returns-3 c = search causes
 
 add-if4 : tie.Need-add-if4
 add-if4 c = search needs
 
 returns-4 : tie.Need-returns-4
 unfolding kind countOf
-returns-4 c = search (refused, passed, ne-eqb, agrees, lt-ltb, le-ltb)
+returns-4 c = search causes
 
 add-all-sound : tie.Need-add-all-sound
 add-all-sound c = search needs
@@ -51,7 +50,7 @@ all-sound-requires c κs = search needs
 
 returns-5 : tie.Need-returns-5
 unfolding kind countOf
-returns-5 c = search (refused, passed, ne-eqb, agrees, le-ltb, sound-cause)
+returns-5 c = search (causes, sound-cause) depth 9
 
 add-if6 : tie.Need-add-if6
 add-if6 c = search needs
@@ -79,15 +78,15 @@ trailer-of-requires c κs = search needs
 
 returns-6 : tie.Need-returns-6
 unfolding kind countOf
-returns-6 c = search (refused, passed, ne-eqb, agrees, le-ltb, sound-cause, close-refused) depth 9
+returns-6 c = search (causes, sound-cause, close-refused) depth 9
 
 returns-7 : tie.Need-returns-7
 unfolding kind countOf
-returns-7 c = search (refused, passed, ne-eqb, agrees, lt-ltb, le-ltb, sound-cause, close-passed) depth 9
+returns-7 c = search (causes, sound-cause, close-passed) depth 9
 
 returns-8 : tie.Need-returns-8
 unfolding kind countOf
-returns-8 c = search (passed, ne-eqb, agrees, le-ltb, sound-cause, close-passed) depth 9
+returns-8 c = search (causes, sound-cause, close-passed) depth 9
 
 pub read-refusal-spec : {M : Type 1} → statement M
 read-refusal-spec =

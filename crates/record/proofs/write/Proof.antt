@@ -3,7 +3,8 @@
 use native.Mathlib.Omega.{arith}
 use mathlib.Core.Path.{sym, _∙_}
 use lib.ListN.{length}
-use Rattle.record.proofs.Writing.{Writable, writable, write-refused, write-kept, write-accepted, write-written}
+use Rattle.symbol.proofs.Refusal.{kept, given, counted-none, counted-all}
+use Rattle.record.proofs.Writing.{Writable, writable, written}
 use borrow.Author.Needs.{needs}
 use Rattle.record.proofs.write.Statement.{statement}
 use Rattle.record.proofs.write.Tie as tie
@@ -16,7 +17,7 @@ here : (c : tie.Else1) → Writable (c .before .before .before .before .args .s 
 here c = writable _ _ (sym (c .before .write-refusal .ensures) ∙ c .if1 .left)
 
 returns : tie.Need-returns
-returns c = (search write-refused, search write-kept)
+returns c = (search counted-none, search kept)
 
 header-of-requires : tie.Need-header-of-requires
 header-of-requires c κs = omega (arith, here c)
@@ -37,7 +38,7 @@ same-length : tie.Need-same-length
 same-length c = search needs
 
 returns-2 : tie.Need-returns-2
-returns-2 c = (search write-accepted, search write-written)
+returns-2 c = (search counted-all, search (given, written))
 
 pub write-spec : {M : Type 1} → statement M
 write-spec =

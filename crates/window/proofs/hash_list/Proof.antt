@@ -3,7 +3,7 @@
 -- Assumes nothing.
 use denote.Ref.{now}
 use lib.ListN.{length}
-use Rattle.window.proofs.Refusal.{kept, given, counted-none, counted-all}
+use Rattle.symbol.proofs.Refusal.{kept, given, counted-none, counted-all}
 use Rattle.window.proofs.HashList.{Accepted, accepted}
 use borrow.Author.Needs.{needs}
 use Rattle.window.proofs.hash_list.Statement.{statement}

@@ -1,6 +1,6 @@
 -- `window::hash_refusal` meets its contract: each return comes after the tests of the earlier causes, in the order of the table.
 -- Assumes nothing.
-use Rattle.window.proofs.Refusal.{causes}
+use Rattle.symbol.proofs.Refusal.{causes}
 use borrow.Author.Needs.{needs}
 use Rattle.window.proofs.hash_refusal.Statement.{statement}
 use Rattle.window.proofs.hash_refusal.Tie as tie
