@@ -7,7 +7,7 @@ use mathlib.Core.List.{List}
 use lib.ListN.{length, getD}
 use Rattle.symbol.specs.Word.{matches}
 use Rattle.symbol.proofs.Word.{match-swap}
-use Rattle.tiling.specs.Tiling.{Tile, start, tiling}
+use Rattle.tiling.specs.Tiling.{Tile, start}
 use Rattle.tiling.specs.Listing.{Entry, firstIsPattern, straight, crossed, listing}
 use Rattle.tiling.proofs.Tiling.{Lies, Each, each-map, tiles-lie}
 

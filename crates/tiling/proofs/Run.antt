@@ -1,16 +1,15 @@
 -- Runs and marking, word by word. A run is as long as the words match, so each word of it matches and the next pair does not; marking
 -- writes zeros over a stretch and touches nothing else, and a zero matches nothing.
 -- Assumes nothing.
-use Prim.Native.Nat.{ℕ, zero, suc, _+_, _-_, _≤_, _<_, min}
+use Prim.Native.Nat.{ℕ, zero, suc, _+_, _≤_, _<_, min}
 use native.Mathlib.Nat.{not-suc-le-zero, le-of-suc-le-suc}
 use native.Mathlib.Decide.{decLe, decLt}
 use native.Mathlib.Omega.{arith}
 use mathlib.Core.Path.{_≡_, refl, sym, _∙_, ap}
 use mathlib.Core.Bool.{Bool, true, false}
-use mathlib.Core.List.{List, [], _∷_, _++_}
-use lib.ListN.{length, take, drop, getD, length-drop, replicate}
-use lib.Seq.{drop-nil, getD-drop}
-use Rattle.symbol.specs.Word.{isCall, matches}
+use mathlib.Core.List.{List, [], _∷_}
+use lib.ListN.{length, getD}
+use Rattle.symbol.specs.Word.{matches}
 use Rattle.symbol.proofs.Word.{call-below, no-match-left, no-match-right}
 use Rattle.tiling.specs.Run.{run, mark}
 

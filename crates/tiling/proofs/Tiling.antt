@@ -10,17 +10,16 @@ use mathlib.Core.Bool.{true, false}
 use mathlib.Core.List.{List, [], _∷_, map}
 use borrow.Author.Tests.{le-leb, lt-leb}
 use lib.Dec.{leb}
-use lib.ListN.{length, take, drop, getD, length-drop}
+use lib.ListN.{length, drop, getD, length-drop}
 use lib.Seq.{getD-drop}
 use Rattle.symbol.specs.Word.{isCall, matches}
 use Rattle.symbol.proofs.Word.{call-below, match-call}
-use Rattle.tiling.specs.Run.{run, mark}
-use Rattle.tiling.specs.Greedy.{greedy}
-use Rattle.tiling.specs.Tiling.{Tile, State, runAt, best, size, lay, tiling}
+use Rattle.tiling.specs.Run.{mark}
+use Rattle.tiling.specs.Tiling.{Tile, State, best, size, lay, tiling}
 use Rattle.tiling.proofs.Run.{zero-left, zero-right, run-within, run-match, length-mark, mark-kept}
 use Rattle.tiling.proofs.Tally.{tally, tally-length, tally-mark, tally-all}
 use Rattle.tiling.proofs.Greedy.{Greedy, done, more, only, greedy-meets}
-use Rattle.tiling.proofs.Best.{Best, best-is}
+use Rattle.tiling.proofs.Best.{best-is}
 
 -- ---- where a tile lies
 -- A tile lies within both sequences, and its words match one by one.

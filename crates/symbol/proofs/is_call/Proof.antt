@@ -1,7 +1,6 @@
 -- `symbol::is_call` meets its contract: the calls are the words from 2^30 to 2^30 + 2^16 - 1.
 -- Assumes nothing.
 use Rattle.symbol.proofs.Word.{call-test, call-test-below}
-use borrow.Author.Needs.{needs}
 use Rattle.symbol.proofs.is_call.Statement.{statement}
 use Rattle.symbol.proofs.is_call.Tie as tie
 
