@@ -74,20 +74,20 @@ longer = b ∷ a ∷ a ∷ d ∷ c ∷ a ∷ a ∷ a ∷ a ∷ b ∷ a ∷ a ∷
 
 unfoldable pub cases : List Case
 cases =
-    pair [] [] 1 [] 0 0
-    ∷ pair (a ∷ []) (a ∷ []) 1 (0 ∷ 0 ∷ 1 ∷ []) 1 1000
-    ∷ pair (a ∷ []) (a ∷ []) 2 [] 0 0
-    ∷ pair (no-call ∷ []) (no-call ∷ []) 1 [] 0 0
-    ∷ pair shorter longer 2 (1 ∷ 7 ∷ 5 ∷ []) 5 526
-    ∷ pair shorter longer 1 (1 ∷ 7 ∷ 5 ∷ 0 ∷ 4 ∷ 1 ∷ 6 ∷ 3 ∷ 1 ∷ []) 7 736
-    ∷ pair (a ∷ b ∷ []) (b ∷ a ∷ []) 1 (0 ∷ 1 ∷ 1 ∷ 1 ∷ 0 ∷ 1 ∷ []) 2 1000
-    ∷ pair (a ∷ a ∷ a ∷ a ∷ []) (a ∷ a ∷ []) 1 (0 ∷ 0 ∷ 2 ∷ []) 2 666
-    ∷ pair (a ∷ a ∷ a ∷ []) (a ∷ a ∷ a ∷ []) 3 (0 ∷ 0 ∷ 3 ∷ []) 3 1000
-    ∷ pair (a ∷ b ∷ a ∷ []) (a ∷ b ∷ b ∷ a ∷ []) 2 (0 ∷ 0 ∷ 2 ∷ []) 2 571
-    ∷ pair (a ∷ b ∷ c ∷ d ∷ e ∷ []) (c ∷ d ∷ e ∷ a ∷ b ∷ []) 2 (2 ∷ 0 ∷ 3 ∷ 0 ∷ 3 ∷ 2 ∷ []) 5 1000
-    ∷ hashed 10 3 (1 ∷ 2 ∷ 3 ∷ 4 ∷ []) (123 ∷ 234 ∷ [])
-    ∷ hashed (2 ^ 31) 3 (1 ∷ 2 ∷ 3 ∷ []) (3 ∷ [])
-    ∷ hashed 0 3 (1 ∷ 2 ∷ 3 ∷ []) (3 ∷ [])
-    ∷ pair (a ∷ a ∷ []) (a ∷ b ∷ []) 1 (0 ∷ 0 ∷ 1 ∷ []) 1 500
-    ∷ moved shorter longer 1 (pos 6 ∷ pos 4 ∷ negℤ (pos 3) ∷ [])
+    pair [] [] 1 [] 0 0  -- K1
+    ∷ pair (a ∷ []) (a ∷ []) 1 (0 ∷ 0 ∷ 1 ∷ []) 1 1000  -- K2
+    ∷ pair (a ∷ []) (a ∷ []) 2 [] 0 0  -- K3
+    ∷ pair (no-call ∷ []) (no-call ∷ []) 1 [] 0 0  -- K4
+    ∷ pair shorter longer 2 (1 ∷ 7 ∷ 5 ∷ []) 5 526  -- K5
+    ∷ pair shorter longer 1 (1 ∷ 7 ∷ 5 ∷ 0 ∷ 4 ∷ 1 ∷ 6 ∷ 3 ∷ 1 ∷ []) 7 736  -- K6
+    ∷ pair (a ∷ b ∷ []) (b ∷ a ∷ []) 1 (0 ∷ 1 ∷ 1 ∷ 1 ∷ 0 ∷ 1 ∷ []) 2 1000  -- K7
+    ∷ pair (a ∷ a ∷ a ∷ a ∷ []) (a ∷ a ∷ []) 1 (0 ∷ 0 ∷ 2 ∷ []) 2 666  -- K8
+    ∷ pair (a ∷ a ∷ a ∷ []) (a ∷ a ∷ a ∷ []) 3 (0 ∷ 0 ∷ 3 ∷ []) 3 1000  -- K9
+    ∷ pair (a ∷ b ∷ a ∷ []) (a ∷ b ∷ b ∷ a ∷ []) 2 (0 ∷ 0 ∷ 2 ∷ []) 2 571  -- K10
+    ∷ pair (a ∷ b ∷ c ∷ d ∷ e ∷ []) (c ∷ d ∷ e ∷ a ∷ b ∷ []) 2 (2 ∷ 0 ∷ 3 ∷ 0 ∷ 3 ∷ 2 ∷ []) 5 1000  -- K11
+    ∷ hashed 10 3 (1 ∷ 2 ∷ 3 ∷ 4 ∷ []) (123 ∷ 234 ∷ [])  -- K12: "123 at B = 10, then 234 after 4 comes in"
+    ∷ hashed (2 ^ 31) 3 (1 ∷ 2 ∷ 3 ∷ []) (3 ∷ [])  -- K12: 2^31
+    ∷ hashed 0 3 (1 ∷ 2 ∷ 3 ∷ []) (3 ∷ [])  -- K12: 0
+    ∷ pair (a ∷ a ∷ []) (a ∷ b ∷ []) 1 (0 ∷ 0 ∷ 1 ∷ []) 1 500  -- the text is marked too
+    ∷ moved shorter longer 1 (pos 6 ∷ pos 4 ∷ negℤ (pos 3) ∷ [])  -- the shifts of K6
     ∷ []
