@@ -15,6 +15,7 @@ low w = w % 2 ^ 30
 unfoldable pub isCall : ℕ → Bool
 isCall w = eqb (kind w) 1 && ltb (low w) (2 ^ 16)
 
+-- The motif code of a call.
 unfoldable pub code : ℕ → ℕ
 code w = w % 2 ^ 16
 
