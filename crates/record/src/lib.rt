@@ -6,7 +6,7 @@ ghost use lib.ListN.{length};
 ghost use mathlib.Core.List.{[], _∷_, _++_};
 ghost use Rattle.buffer.specs.Buffer.{onto};
 ghost use Rattle.record.specs.Format.{header, trailer};
-ghost use Rattle.record.specs.Reading.{readRefusal, readAnswer, readBuffer};
+ghost use Rattle.record.specs.Reading.{count, frame, content, readRefusal, readAnswer, readBuffer};
 ghost use Rattle.record.specs.Writing.{writeRefusal, writeAnswer, writeBuffer};
 
 // The answer of reading: a refusal's number and zeros, or 0 and what was read.
@@ -39,9 +39,9 @@ fn trailer_of(h: u32, s: &[u32]) -> u32
     0xC000_0000 + sum
 }
 
-// Why src cannot be read into a buffer of room words; 0 where it can.
-fn read_refusal(src: &[u32], room: usize) -> u32
-    ensures { λ r. ⌜ r ≡ readRefusal (now (src .entry)) room ⌝ }
+// Why src does not start with a header and as many words as it gives; 0 where it does.
+fn frame_refusal(src: &[u32]) -> u32
+    ensures { λ r. ⌜ r ≡ frame (now (src .entry)) 0 ⌝ }
 {
     if src.len() == 0 {
         return 8;
@@ -57,13 +57,39 @@ fn read_refusal(src: &[u32], room: usize) -> u32
     if src.len() < count + 2 {
         return 8;
     }
-    if !symbol::all_sound(&src[1..count + 1]) {
+    0
+}
+
+// Why a header's sequence and trailer cannot be taken; 0 where they can.
+fn content_refusal(src: &[u32]) -> u32
+    requires { ⌜ count (now src) + 2 ≤ length (now src) ⌝ }
+    ensures { λ r. ⌜ r ≡ content (now (src .entry)) 0 ⌝ }
+{
+    let h = src[0];
+    let count = (h % 16384) as usize;
+    let s = &src[1..count + 1];
+    if !symbol::all_sound(s) {
         return 2;
     }
-    if src[count + 1] != trailer_of(h, &src[1..count + 1]) {
+    if src[count + 1] != trailer_of(h, s) {
         return 10;
     }
-    if room < count {
+    0
+}
+
+// Why src cannot be read into a buffer of room words; 0 where it can.
+fn read_refusal(src: &[u32], room: usize) -> u32
+    ensures { λ r. ⌜ r ≡ readRefusal (now (src .entry)) room ⌝ }
+{
+    let framed = frame_refusal(src);
+    if framed != 0 {
+        return framed;
+    }
+    let filled = content_refusal(src);
+    if filled != 0 {
+        return filled;
+    }
+    if room < (src[0] % 16384) as usize {
         return 11;
     }
     0

@@ -25,6 +25,26 @@ pub clear : (t : Bool) (n later : ℕ) → 0 < n → refuse t n later ≡ 0 → 
 clear true n later h e = absurd (omega arith)
 clear false n later h e = record { first = refl; rest = e }
 
+-- ---- a part of a chain, as a function of what is checked later
+-- A cause of the part stops the chain; where none holds, what is checked later decides.
+pub record Part (f : ℕ → ℕ) : Type 0 where
+  pub stops : (f 0 ≡ 0 → ⊥) → (k : ℕ) → f 0 ≡ f k
+  pub goes : f 0 ≡ 0 → (k : ℕ) → k ≡ f k
+
+pub part-end : Part (λ k. k)
+part-end = record { stops = λ d k. absurd (d refl); goes = λ e k. refl }
+
+pub part-cause : (f : ℕ → ℕ) (t : Bool) (n : ℕ) → 0 < n → Part f → Part (λ k. refuse t n (f k))
+part-cause f true n h p = record { stops = λ d k. refl; goes = λ e k. absurd (omega arith) }
+part-cause f false n h p = p
+
+-- What the code of a part answered, carried to the whole chain.
+pub part-stops : (f : ℕ → ℕ) → Part f → (r k : ℕ) → r ≡ f 0 → (r ≡ 0 → ⊥) → r ≡ f k
+part-stops f p r k e d = e ∙ p .stops (λ z. d (e ∙ z)) k
+
+pub part-goes : (f : ℕ → ℕ) → Part f → (r q k : ℕ) → r ≡ f 0 → r ≡ 0 → q ≡ k → q ≡ f k
+part-goes f p r q k e z s = s ∙ p .goes (sym e ∙ z) k
+
 -- ---- causes as the code tests them
 -- The contrary of a test.
 pub cause-of : (r t b : Bool) → r ≡ t → not r ≡ b → not t ≡ b
