@@ -4,7 +4,7 @@ use crate::core;
 use crate::group::Group;
 use crate::reference::{self, MAX_WORDS, ROOM, TOO_LONG, UNSOUND, WINDOW};
 use crate::samples::{
-    any_length, call, damages, due, fault_sets, rooms, sequence, unsound_word, with, NO_CALL,
+    any_length, call, damages, due, fault_sets, faulty, rooms, sequence, unsound_word, with, NO_CALL,
 };
 use std::fmt::Arguments;
 
@@ -126,15 +126,8 @@ pub fn order(g: &mut Group) {
         let [long, unsound, bad_window, short] = faults;
         for count in [1, 2, 20, MAX_WORDS].repeat(25) {
             let random = &mut g.random;
-            let count = if long {
-                MAX_WORDS + 2 + random.below(20)
-            } else {
-                count
-            };
-            let mut words = sequence(random, count);
-            if unsound {
-                words[random.below(count)] = unsound_word(random);
-            }
+            let words = faulty(random, count, long, unsound);
+            let count = words.len();
             let window = if bad_window {
                 random.pick(&[0, MAX_WORDS as u32 + 1, u32::MAX])
             } else {

@@ -8,7 +8,7 @@ use crate::reference::{
     self, header, record, sealed, trailer, CUT, HEADER, MAX_WORDS, ROOM, TOO_LONG, TRAILER, UNSOUND,
 };
 use crate::samples::{
-    any_length, call, damages, due, fault_sets, ids, rooms, sequence, sound_word, unsound_word,
+    any_length, call, damages, due, fault_sets, faulty, ids, rooms, sequence, sound_word, unsound_word,
     with, NO_CALL,
 };
 use std::fmt::Arguments;
@@ -320,15 +320,8 @@ pub fn write_order(g: &mut Group) {
         let [long, unsound, short] = faults;
         for count in [1, 2, 20, MAX_WORDS].repeat(50) {
             let random = &mut g.random;
-            let count = if long {
-                MAX_WORDS + 1 + random.below(20)
-            } else {
-                count
-            };
-            let mut words = sequence(random, count);
-            if unsound {
-                words[random.below(count)] = unsound_word(random);
-            }
+            let words = faulty(random, count, long, unsound);
+            let count = words.len();
             let room = if short {
                 random.below(count + 2)
             } else {

@@ -62,6 +62,20 @@ pub fn sequence(random: &mut Random, length: usize) -> Vec<u32> {
     (0..length).map(|_| sound_word(random)).collect()
 }
 
+/// A sequence of a length, or one past the limit, with or without an unsound word.
+pub fn faulty(random: &mut Random, length: usize, long: bool, unsound: bool) -> Vec<u32> {
+    let length = if long {
+        reference::MAX_WORDS + 1 + random.below(20)
+    } else {
+        length
+    };
+    let mut words = sequence(random, length);
+    if unsound {
+        words[random.below(length)] = unsound_word(random);
+    }
+    words
+}
+
 /// Positions of a sequence, each with unsound words to put there: a random one, and in a short
 /// sequence every one of the table.
 pub fn damages(random: &mut Random, length: usize) -> Vec<(usize, u32)> {

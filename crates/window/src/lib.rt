@@ -9,14 +9,14 @@ ghost use Rattle.window.specs.Hash.{hash};
 ghost use Rattle.window.specs.HashList.{windows, hashes, hashRefusal, hashAnswer, hashBuffer};
 
 // a times b, modulo 2^32.
-pub fn wrapping_mul(a: u32, b: u32) -> u32
+fn wrapping_mul(a: u32, b: u32) -> u32
     ensures { λ r. ⌜ r ≡ (a * b) % 2 ^ 32 ⌝ }
 {
     ((a as u64) * (b as u64) % 0x1_0000_0000) as u32
 }
 
 // The e-th power of b, modulo 2^32; 1 for e = 0, whatever b is.
-pub fn power(b: u32, e: usize) -> u32
+fn power(b: u32, e: usize) -> u32
     ensures { λ r. ⌜ r ≡ b ^ e % 2 ^ 32 ⌝ }
 {
     let mut p = 1;
@@ -29,7 +29,7 @@ pub fn power(b: u32, e: usize) -> u32
 }
 
 // The hash of a whole window.
-pub fn hash_of(b: u32, window: &[u32]) -> u32
+fn hash_of(b: u32, window: &[u32]) -> u32
     ensures { λ r. ⌜ r ≡ hash b (now (window .entry)) ⌝ }
 {
     let mut h = 0;
@@ -43,7 +43,7 @@ pub fn hash_of(b: u32, window: &[u32]) -> u32
 
 // The hash of the window one position on: the outgoing word times the power is taken out, the rest is multiplied by b, and
 // the incoming word is added, each step wrapping at 2^32.
-pub fn roll(h: u32, outgoing: u32, power: u32, b: u32, incoming: u32) -> u32
+fn roll(h: u32, outgoing: u32, power: u32, b: u32, incoming: u32) -> u32
     ensures { λ r. ⌜ ((ws : List ℕ) → h ≡ hash b (outgoing ∷ ws) → power ≡ b ^ length ws % 2 ^ 32 → r ≡ hash b (ws ++ (incoming ∷ []))) ⌝ }
 {
     let rest = std::num::wrapping_sub_u32(h, wrapping_mul(outgoing, power));
@@ -51,7 +51,7 @@ pub fn roll(h: u32, outgoing: u32, power: u32, b: u32, incoming: u32) -> u32
 }
 
 // Fills the start of buffer with the hash at each position where a window of s words fits.
-pub fn fill_hashes(words: &[u32], b: u32, s: usize, buffer: &mut [u32])
+fn fill_hashes(words: &[u32], b: u32, s: usize, buffer: &mut [u32])
     requires { ⌜ (1 ≤ s) × (windows s (length (now words)) ≤ length (now buffer)) ⌝ }
     ensures { λ r. ⌜ now (buffer .exit) ≡ onto (hashes b s (now (words .entry))) (now (buffer .entry)) ⌝ }
 {
@@ -70,7 +70,7 @@ pub fn fill_hashes(words: &[u32], b: u32, s: usize, buffer: &mut [u32])
 }
 
 // At how many positions of n words a window of s words fits.
-pub fn window_count(s: usize, n: usize) -> usize
+fn window_count(s: usize, n: usize) -> usize
     requires { ⌜ n < 2 ^ 63 ⌝ }
     ensures { λ r. ⌜ r ≡ windows s n ⌝ }
 {
