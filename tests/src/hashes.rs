@@ -4,7 +4,8 @@ use crate::core;
 use crate::group::Group;
 use crate::reference::{self, MAX_WORDS, ROOM, TOO_LONG, UNSOUND, WINDOW};
 use crate::samples::{
-    any_length, call, damages, due, fault_sets, faulty, rooms, sequence, unsound_word, with, NO_CALL,
+    any_length, call, damages, due, fault_sets, faulty, rooms, sequence, unsound_word, with,
+    NO_CALL,
 };
 use std::fmt::Arguments;
 

@@ -8,8 +8,8 @@ use crate::reference::{
     self, header, record, sealed, trailer, CUT, HEADER, MAX_WORDS, ROOM, TOO_LONG, TRAILER, UNSOUND,
 };
 use crate::samples::{
-    any_length, call, damages, due, fault_sets, faulty, ids, rooms, sequence, sound_word, unsound_word,
-    with, NO_CALL,
+    any_length, call, damages, due, fault_sets, faulty, ids, rooms, sequence, sound_word,
+    unsound_word, with, NO_CALL,
 };
 use std::fmt::Arguments;
 
