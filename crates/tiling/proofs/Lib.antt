@@ -4,5 +4,6 @@ pub mod Tally
 pub mod Peak
 pub mod Greedy
 pub mod Best
+pub mod Marked
 pub mod Tiling
 pub mod Listing

@@ -5,7 +5,7 @@
 use Prim.Native.Nat.{ℕ, _+_, _≤_, _<_}
 use native.Mathlib.Decide.{decLe}
 use native.Mathlib.Omega.{arith}
-use mathlib.Core.Path.{_≡_, refl, sym, _∙_}
+use mathlib.Core.Path.{_≡_}
 use mathlib.Core.Bool.{true, false}
 use mathlib.Core.List.{List, [], _∷_, map}
 use borrow.Author.Tests.{le-leb, lt-leb}
@@ -14,12 +14,12 @@ use lib.ListN.{length, drop, getD, length-drop}
 use lib.Seq.{getD-drop}
 use Rattle.symbol.specs.Word.{isCall, matches}
 use Rattle.symbol.proofs.Word.{call-below, match-call}
-use Rattle.tiling.specs.Run.{mark}
 use Rattle.tiling.specs.Tiling.{Tile, State, best, size, lay, tiling}
-use Rattle.tiling.proofs.Run.{zero-left, zero-right, run-within, run-match, length-mark, mark-kept}
+use Rattle.tiling.proofs.Run.{run-within, run-match}
 use Rattle.tiling.proofs.Tally.{tally, tally-length, tally-mark, tally-all}
 use Rattle.tiling.proofs.Greedy.{Greedy, done, more, only, greedy-meets}
 use Rattle.tiling.proofs.Best.{best-is}
+use Rattle.tiling.proofs.Marked.{Worked, worked-none, worked-lay, match-kept}
 
 -- ---- where a tile lies
 -- A tile lies within both sequences, and its words match one by one.
@@ -80,53 +80,14 @@ tiling-equation minimum one s = go (decLe minimum (best s .len))
         rw (lt-leb minimum (best s .len) l) (only (tiling-greedy minimum one s) (done l))
 
 -- ---- every tile lies in the sequences as handed in
--- ys is xs with some words marked.
-pub record Marked (xs ys : List ℕ) : Type 0 where
-  pub same : length ys ≡ length xs
-  pub kept : (j : ℕ) → (getD ys j 0 ≡ 0 → ⊥) → getD ys j 0 ≡ getD xs j 0
-
-pub marked-none : (xs : List ℕ) → Marked xs xs
-marked-none xs = record { same = refl; kept = λ j h. refl }
-
-pub marked-more : (xs ys : List ℕ) (i n : ℕ) → Marked xs ys → Marked xs (mark i n ys)
-marked-more xs ys i n r =
-    record {
-      same = length-mark i n ys ∙ r .same;
-      kept = λ j h. let e = mark-kept i n ys j h in e ∙ r .kept j (λ z. h (e ∙ z));
-    }
-
-pub record Worked (s₀ s : State) : Type 0 where
-  pub on-pattern : Marked (s₀ .pattern) (s .pattern)
-  pub on-text : Marked (s₀ .text) (s .text)
-
-pub worked-none : (s : State) → Worked s s
-worked-none s = record { on-pattern = marked-none (s .pattern); on-text = marked-none (s .text) }
-
-pub worked-lay : (s₀ s : State) (k : Tile) → Worked s₀ s → Worked s₀ (lay s k)
-unfolding lay
-worked-lay s₀ s k r =
-    record {
-      on-pattern = marked-more (s₀ .pattern) (s .pattern) (k .p) (k .len) (r .on-pattern);
-      on-text = marked-more (s₀ .text) (s .text) (k .t) (k .len) (r .on-text);
-    }
-
--- Words that match are no zeros, so they stand at the start too.
+-- Words that match stand at the start too.
 pub lies-before : (s₀ s : State) (k : Tile) → Worked s₀ s → Lies s k → Lies s₀ k
 lies-before s₀ s k r l =
     record {
       in-pattern = omega (arith, l .in-pattern, r .on-pattern .same);
       in-text = omega (arith, l .in-text, r .on-text .same);
-      matching = λ i h.
-          let m = l .matching i h in
-          rw (
-            ← r .on-pattern .kept (k .p + i) (λ z. clash (sym (rw z at m) ∙ zero-left (getD (s .text) (k .t + i) 0))),
-            ← r .on-text .kept (k .t + i) (λ z. clash (sym (rw z at m) ∙ zero-right (getD (s .pattern) (k .p + i) 0))),
-          )
-          m;
+      matching = λ i h. match-kept (s₀ .pattern) (s .pattern) (s₀ .text) (s .text) (r .on-pattern) (r .on-text) (k .p + i) (k .t + i) (l .matching i h);
     }
-  where
-    clash : true ≡ false → ⊥
-    clash e = let z : _≡_ {A = ℕ} 0 1 = cc in omega arith
 
 -- Q holds of each entry of a list.
 pub data Each {A : Type 0} (Q : A → Type 0) : List A → Type 0 where

@@ -3,4 +3,5 @@ pub mod Greedy
 pub mod Tiling
 pub mod Listing
 pub mod Comparing
+pub mod Answer
 pub mod Known
