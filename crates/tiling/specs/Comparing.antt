@@ -28,18 +28,18 @@ settings minimum buckets start later =
     (refuse (ltb 2048 start) 5 later)))
 
 -- 6: "Workspace below 4 × (sum of lengths) words"; 7: "Tile buffer below 3 × (shorter length divided by minimum, rounded
--- down) words".
-abbrev pub room : List ℕ → List ℕ → ℕ → ℕ → ℕ → ℕ → ℕ
+-- down) words". Of the sequences only the lengths count.
+abbrev pub room : ℕ → ℕ → ℕ → ℕ → ℕ → ℕ → ℕ
 room first second minimum workspace tiles later =
-    refuse (ltb workspace (4 * (length first + length second))) 6
-    (refuse (ltb tiles (3 * (min (length first) (length second) / minimum))) 7 later)
+    refuse (ltb workspace (4 * (first + second))) 6
+    (refuse (ltb tiles (3 * (min first second / minimum))) 7 later)
 
 -- The sequences, the minimum, and how many words the workspace and the tile buffer have.
 abbrev pub plainRefusal : List ℕ → List ℕ → ℕ → ℕ → ℕ → ℕ
 plainRefusal first second minimum workspace tiles =
-    sequences first second (minimums minimum (room first second minimum workspace tiles 0))
+    sequences first second (minimums minimum (room (length first) (length second) minimum workspace tiles 0))
 
 -- The same with the search's bucket count and first search length. Any multiplier will do.
 abbrev pub fastRefusal : List ℕ → List ℕ → ℕ → ℕ → ℕ → ℕ → ℕ → ℕ
 fastRefusal first second minimum buckets start workspace tiles =
-    sequences first second (minimums minimum (settings minimum buckets start (room first second minimum workspace tiles 0)))
+    sequences first second (minimums minimum (settings minimum buckets start (room (length first) (length second) minimum workspace tiles 0)))

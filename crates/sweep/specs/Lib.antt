@@ -1,0 +1,3 @@
+pub mod Workspace
+pub mod Row
+pub mod Progress

@@ -1,0 +1,53 @@
+-- The state of a comparison under way, as the functions of the engines hand it on. No reader of the engines' contracts needs these.
+use Prim.Native.Nat.{ℕ, _+_, _*_, _/_, _≤_, _<_}
+use mathlib.Core.Path.{_≡_}
+use mathlib.Core.List.{List, _++_, map}
+use lib.ListN.{length, take}
+use Rattle.symbol.specs.Word.{isCall}
+use Rattle.buffer.specs.Buffer.{onto}
+use Rattle.tiling.specs.Tiling.{Tile, State, runAt, best, size, lay}
+use Rattle.tiling.specs.Listing.{Entry, tileWords, covered}
+use Rattle.tiling.proofs.Tally.{tally}
+use Rattle.tiling.proofs.Greedy.{Greedy}
+use Rattle.tile.specs.Listed.{listed}
+use Rattle.sweep.specs.Workspace.{Space, state, bound}
+use Rattle.sweep.specs.declared.Job.{Job}
+use Rattle.sweep.specs.declared.Totals.{Totals}
+
+-- Why everything fits: each tile has at least the minimum of words, and what is covered was free calls of the pattern.
+pub record Fits (j : Job) (ws b : List ℕ) (k : Totals) : Type 0 where
+  pub space : Space j ws
+  pub least : 1 ≤ j .minimum
+  pub tile-room : 3 * (j .n / j .minimum) ≤ length b
+  pub each : k .count * j .minimum ≤ k .covered
+  pub free : k .covered + tally isCall (take (j .n) ws) ≤ j .n
+
+-- A tile as it is listed.
+abbrev pub entry : Job → Tile → Entry
+entry j k = listed (j .straight) (k .p) (k .t) (k .len)
+
+-- Some tiles were laid from the state s₀ on and listed from the start of the buffer b₀ on: whatever the greedy choice lays from here,
+-- after them, is what it lays from s₀.
+pub record Laid (j : Job) (s₀ : State) (b₀ : List ℕ) (ws b : List ℕ) (k : Totals) : Type 0 where
+  pub tiles : List Tile
+  pub rest : (ls : List Tile) → Greedy best size lay (j .minimum) (state j ws) ls → Greedy best size lay (j .minimum) s₀ (tiles ++ ls)
+  pub held : b ≡ onto (tileWords (map (entry j) tiles)) b₀
+  pub counted : k .count ≡ length tiles
+  pub summed : k .covered ≡ covered (map (entry j) tiles)
+
+-- What was laid before is laid after, with more tiles at its end.
+pub record Onward (j : Job) (ws b : List ℕ) (k : Totals) (ws' b' : List ℕ) (k' : Totals) : Type 0 where
+  pub keeps : (s₀ : State) (b₀ : List ℕ) → Laid j s₀ b₀ ws b k → Laid j s₀ b₀ ws' b' k'
+
+-- No run of a row exceeds its bound, no bound the level, and the rows before p are below the level.
+pub record Bounded (j : Job) (ws : List ℕ) (level p : ℕ) : Type 0 where
+  pub upper : (q t : ℕ) → q < j .n → runAt (state j ws) q t ≤ bound j ws q
+  pub capped : (q : ℕ) → q < j .n → bound j ws q ≤ level
+  pub passed : (q : ℕ) → q < p → bound j ws q < level
+
+-- A sweep at a level, before row p.
+pub record Sweeping (j : Job) (level p : ℕ) (ws b : List ℕ) (k : Totals) : Type 0 where
+  pub fits : Fits j ws b k
+  pub bounded : Bounded j ws level p
+  pub long : j .minimum ≤ level
+  pub within : p ≤ j .n

@@ -1,0 +1,28 @@
+-- What searching a row promises, and the greatest of the bounds. No reader of the engines' contracts needs these: they tie the functions
+-- of the engines together.
+use Prim.Native.Nat.{ℕ, _≤_, _<_}
+use mathlib.Core.Bool.{true, false}
+use mathlib.Core.Path.{_≡_}
+use mathlib.Core.List.{List}
+use lib.Dec.{ltb}
+use lib.ListN.{length, drop, getD}
+use Rattle.tile.specs.declared.TextAt.{TextAt}
+use Rattle.tiling.specs.Run.{run}
+use Rattle.sweep.specs.declared.Found.{Found}
+
+-- The longest run from the start of ps to a position of ts, and the first position that has it, if it is longer than the floor. No case
+-- for "none": what is found is then the floor.
+pub record Row (ps ts : List ℕ) (floor : ℕ) (f : Found) : Type 0 where
+  pub least : floor ≤ f .len
+  pub most : (u : ℕ) → run ps (drop u ts) ≤ f .len
+  pub long : floor < f .len → run ps (drop (f .t .0) ts) ≡ f .len
+  pub first : floor < f .len → (u : ℕ) → u < f .t .0 → run ps (drop u ts) < f .len
+
+-- The longer of what was found and a run of len words at t; of equal ones, what was found.
+unfoldable pub better : Found → TextAt → ℕ → Found
+better f t len = elim (ltb (f .len) len) [ true ↦ record { t = t; len = len } | false ↦ f ]
+
+-- r is the greatest of the words, or 0 where there are none: none is greater, and it is below what all of them are below.
+pub record Greatest (words : List ℕ) (r : ℕ) : Type 0 where
+  pub most : (i : ℕ) → i < length words → getD words i 0 ≤ r
+  pub least : (l : ℕ) → 0 < l → ((i : ℕ) → i < length words → getD words i 0 < l) → r < l
