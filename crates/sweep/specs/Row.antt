@@ -5,7 +5,7 @@ use mathlib.Core.Bool.{true, false}
 use mathlib.Core.Path.{_≡_}
 use mathlib.Core.List.{List}
 use lib.Dec.{ltb}
-use lib.ListN.{length, drop, getD}
+use lib.ListN.{drop}
 use Rattle.tile.specs.declared.TextAt.{TextAt}
 use Rattle.tiling.specs.Run.{run}
 use Rattle.sweep.specs.declared.Found.{Found}
@@ -22,7 +22,7 @@ pub record Row (ps ts : List ℕ) (floor : ℕ) (f : Found) : Type 0 where
 unfoldable pub better : Found → TextAt → ℕ → Found
 better f t len = elim (ltb (f .len) len) [ true ↦ record { t = t; len = len } | false ↦ f ]
 
--- r is the greatest of the words, or 0 where there are none: none is greater, and it is below what all of them are below.
-pub record Greatest (words : List ℕ) (r : ℕ) : Type 0 where
-  pub most : (i : ℕ) → i < length words → getD words i 0 ≤ r
-  pub least : (l : ℕ) → 0 < l → ((i : ℕ) → i < length words → getD words i 0 < l) → r < l
+-- r is the greatest of f 0, .. f (n - 1), or 0 where n is 0: none of them is greater, and it is below what all of them are below.
+pub record Greatest (f : ℕ → ℕ) (n r : ℕ) : Type 0 where
+  pub most : (i : ℕ) → i < n → f i ≤ r
+  pub least : (l : ℕ) → 0 < l → ((i : ℕ) → i < n → f i < l) → r < l

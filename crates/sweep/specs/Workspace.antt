@@ -24,9 +24,6 @@ boundsFrom j = 2 * (j .n + j .m)
 abbrev pub bound : Job → List ℕ → ℕ → ℕ
 bound j ws p = getD ws (boundsFrom j + p) 0
 
-abbrev pub bounds : Job → List ℕ → List ℕ
-bounds j ws = take (j .n) (drop (boundsFrom j) ws)
-
 -- The workspace after a tile: its words are marked on both sequences, and the bounds of the rows that it covers are 0.
 abbrev pub laid : Job → ℕ → ℕ → ℕ → List ℕ → List ℕ
 laid j p t len ws = mark (boundsFrom j + p) len (mark (j .n + t) len (mark p len ws))

@@ -1,14 +1,13 @@
-// What both engines share of a comparison under way: the parts of the workspace, laying a tile, the bounds of the rows, and
-// the checks that come before.
+// What both engines share of a comparison under way: the parts of the workspace, laying a tile, and the bounds of the
+// rows.
 use tile::PatternAt;
 use tile::TextAt;
 ghost use mathlib.Core.Path.{_≡_};
 ghost use mathlib.Core.List.{_++_};
-ghost use Prim.Native.Nat.{_+_, _≤_, _<_, min, max};
-ghost use lib.ListN.{length, set};
+ghost use Prim.Native.Nat.{_+_, _≤_, _<_, max};
+ghost use lib.ListN.{length, getD, set};
 ghost use Rattle.buffer.specs.Buffer.{onto};
-ghost use Rattle.tiling.specs.Comparing.{sequences, minimums, room};
-ghost use Rattle.sweep.specs.Workspace.{Space, state, boundsFrom, bound, bounds, laid};
+ghost use Rattle.sweep.specs.Workspace.{Space, state, boundsFrom, bound, laid};
 ghost use Rattle.sweep.specs.Row.{Row, better, Greatest};
 ghost use Rattle.sweep.specs.Progress.{Sweeping, Onward};
 
@@ -42,13 +41,19 @@ pub fn keep(found: Found, t: TextAt, len: usize) -> Found
     found
 }
 
+fn wide(w: u32) -> usize
+    ensures { λ r. ⌜ r ≡ w ⌝ }
+{
+    w as usize
+}
+
 // The bound of a row.
 pub fn bound_of(ws: &[u32], job: Job, p: PatternAt) -> usize
     requires { ⌜ Space job (now ws) × (p .0 < job .n) ⌝ }
     ensures { λ r. ⌜ r ≡ bound job (now (ws .entry)) (p .0) ⌝ }
 {
     let at = 2 * (job.n + job.m) + p.0;
-    ws[at] as usize
+    wide(ws[at])
 }
 
 pub fn set_bound(ws: &mut [u32], job: Job, p: PatternAt, value: usize)
@@ -61,7 +66,7 @@ pub fn set_bound(ws: &mut [u32], job: Job, p: PatternAt, value: usize)
 
 // The greatest of some words; 0 where there are none.
 fn greatest(words: &[u32]) -> u32
-    ensures { λ r. ⌜ Greatest (now (words .entry)) r ⌝ }
+    ensures { λ r. ⌜ Greatest (λ i. getD (now (words .entry)) i 0) (length (now (words .entry))) r ⌝ }
 {
     let mut most = 0;
     let mut i = 0;
@@ -84,104 +89,11 @@ fn larger(a: u32, b: u32) -> u32
 // The greatest bound of all rows.
 pub fn greatest_bound(ws: &[u32], job: Job) -> usize
     requires { ⌜ Space job (now ws) ⌝ }
-    ensures { λ r. ⌜ Greatest (bounds job (now (ws .entry))) r ⌝ }
+    ensures { λ r. ⌜ Greatest (bound job (now (ws .entry))) (job .n) r ⌝ }
 {
     let from = 2 * (job.n + job.m);
     let to = from + job.n;
-    greatest(&ws[from..to]) as usize
-}
-
-// Marks the words of a tile on both sequences, and clears the bounds of the rows that it covers.
-fn lay_tile(ws: &mut [u32], job: Job, p: PatternAt, t: TextAt, len: usize)
-    requires { ⌜ Space job (now ws) × (p .0 + len ≤ job .n) × (t .0 + len ≤ job .m) ⌝ }
-    ensures { λ r. ⌜ now (ws .exit) ≡ laid job (p .0) (t .0) len (now (ws .entry)) ⌝ }
-{
-    let rows = 2 * (job.n + job.m) + p.0;
-    tile::mark_words(ws, p.0, len);
-    tile::mark_words(ws, job.n + t.0, len);
-    tile::mark_words(ws, rows, len);
-}
-
-// After the row at p was searched, where its bound is the level: a run of that length is the next tile, since no run is
-// longer and no row before has one as long. A shorter one is the row's new bound.
-pub fn settle(
-    ws: &mut [u32],
-    job: Job,
-    level: usize,
-    p: PatternAt,
-    found: Found,
-    tiles: &mut [u32],
-    totals: Totals,
-) -> Totals
-    requires { ⌜ Sweeping job level (p .0) (now ws) (now tiles) totals × (p .0 < job .n) × ((floor : ℕ) × (floor < level) × Row (drop (p .0) (state job (now ws) .pattern)) (state job (now ws) .text) floor found) ⌝ }
-    ensures { λ r. ⌜ Sweeping job level (p .0 + 1) (now (ws .exit)) (now (tiles .exit)) r ⌝ }
-    ensures { λ r. ⌜ Onward job (now (ws .entry)) (now (tiles .entry)) totals (now (ws .exit)) (now (tiles .exit)) r ⌝ }
-{
-    if found.len != level {
-        set_bound(ws, job, p, found.len);
-        return totals;
-    }
-    lay_tile(ws, job, p, found.t, level);
-    tile::list_tile(tiles, totals.count, job.straight, p, found.t, level);
-    Totals {
-        count: totals.count + 1,
-        covered: totals.covered + level,
-    }
-}
-
-// The checks of the sequences: 1 for more than 2,048 words, 2 for an unsound word.
-pub fn sequences_refusal(first: &[u32], second: &[u32]) -> u32
-    ensures { λ r. ⌜ r ≡ sequences (now (first .entry)) (now (second .entry)) 0 ⌝ }
-{
-    if 2048 < first.len() {
-        return 1;
-    }
-    if 2048 < second.len() {
-        return 1;
-    }
-    if !symbol::all_sound(first) {
-        return 2;
-    }
-    if !symbol::all_sound(second) {
-        return 2;
-    }
-    0
-}
-
-// The check of the minimum: 3 outside 1 to 256.
-pub fn minimum_refusal(minimum: u32) -> u32
-    ensures { λ r. ⌜ r ≡ minimums minimum 0 ⌝ }
-{
-    if minimum == 0 {
-        return 3;
-    }
-    if 256 < minimum {
-        return 3;
-    }
-    0
-}
-
-// The checks of the room: 6 for a workspace too short, 7 for a tile buffer too short.
-pub fn room_refusal(n: usize, m: usize, minimum: usize, workspace: usize, tiles: usize) -> u32
-    requires { ⌜ (n ≤ 2048) × (m ≤ 2048) × (1 ≤ minimum) ⌝ }
-    ensures { λ r. ⌜ r ≡ room n m minimum workspace tiles 0 ⌝ }
-{
-    if workspace < 4 * (n + m) {
-        return 6;
-    }
-    if tiles < 3 * (smaller(n, m) / minimum) {
-        return 7;
-    }
-    0
-}
-
-fn smaller(a: usize, b: usize) -> usize
-    ensures { λ r. ⌜ r ≡ min a b ⌝ }
-{
-    if b < a {
-        return b;
-    }
-    a
+    wide(greatest(&ws[from..to]))
 }
 
 // Puts pattern and text to the start of the workspace.

@@ -1,0 +1,68 @@
+// The checks that come before a comparison. Each answers the number of its own refusal, or 0.
+ghost use mathlib.Core.Path.{_≡_};
+ghost use Prim.Native.Nat.{_/_, _≤_, min};
+ghost use Rattle.tiling.specs.Comparing.{sequences, minimums, room};
+
+// The checks of the sequences: 1 for more than 2,048 words, 2 for an unsound word.
+pub fn sequences_refusal(first: &[u32], second: &[u32]) -> u32
+    ensures { λ r. ⌜ r ≡ sequences (now (first .entry)) (now (second .entry)) 0 ⌝ }
+{
+    if 2048 < first.len() {
+        return 1;
+    }
+    if 2048 < second.len() {
+        return 1;
+    }
+    if !symbol::all_sound(first) {
+        return 2;
+    }
+    if !symbol::all_sound(second) {
+        return 2;
+    }
+    0
+}
+
+// The check of the minimum: 3 outside 1 to 256.
+pub fn minimum_refusal(minimum: u32) -> u32
+    ensures { λ r. ⌜ r ≡ minimums minimum 0 ⌝ }
+{
+    if minimum == 0 {
+        return 3;
+    }
+    if 256 < minimum {
+        return 3;
+    }
+    0
+}
+
+// The shorter of two lengths.
+fn smaller(a: usize, b: usize) -> usize
+    ensures { λ r. ⌜ r ≡ min a b ⌝ }
+{
+    if b < a {
+        return b;
+    }
+    a
+}
+
+// How many tiles there can be: the shorter length divided by the minimum, rounded down.
+fn most_tiles(n: usize, m: usize, minimum: usize) -> usize
+    requires { ⌜ (n ≤ 2048) × (m ≤ 2048) × (1 ≤ minimum) ⌝ }
+    ensures { λ r. ⌜ (r ≡ min n m / minimum) × (r ≤ 2048) ⌝ }
+{
+    smaller(n, m) / minimum
+}
+
+// The checks of the room: 6 for a workspace too short, 7 for a tile buffer too short.
+pub fn room_refusal(n: usize, m: usize, minimum: usize, workspace: usize, tiles: usize) -> u32
+    requires { ⌜ (n ≤ 2048) × (m ≤ 2048) × (1 ≤ minimum) ⌝ }
+    ensures { λ r. ⌜ r ≡ room n m minimum workspace tiles 0 ⌝ }
+{
+    if workspace < 4 * (n + m) {
+        return 6;
+    }
+    if tiles < 3 * most_tiles(n, m, minimum) {
+        return 7;
+    }
+    0
+}

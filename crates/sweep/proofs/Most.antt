@@ -1,0 +1,36 @@
+-- The greatest of some numbers, one after another: the larger of the greatest so far and the next is the greatest of one more.
+-- Assumes nothing.
+use Prim.Native.Nat.{ℕ, zero, suc, _+_, _-_, _*_, _≤_, _<_, max}
+use native.Mathlib.Nat.{not-suc-le-zero}
+use native.Mathlib.Decide.{decLt}
+use native.Mathlib.Omega.{arith}
+use mathlib.Core.Path.{_≡_, refl, sym, _∙_}
+use mathlib.Core.List.{List}
+use lib.ListN.{length, take, drop, getD, length-take, length-drop}
+use lib.Seq.{getD-drop}
+use Rattle.sweep.specs.Row.{Greatest}
+
+pub record Seen (words : List ℕ) (i r : ℕ) : Type 0 where
+  pub within : i ≤ length words
+  pub greatest : Greatest (λ k. getD words k 0) i r
+
+pub seen-none : (words : List ℕ) → Seen words 0 0
+seen-none words =
+    record {
+      within = omega arith;
+      greatest = record { most = λ i h. absurd (not-suc-le-zero h); least = λ l h f. h };
+    }
+
+pub seen-more : (words : List ℕ) (i r s : ℕ) → Seen words i r → i < length words → s ≡ max r (getD words i 0) → Seen words (i + 1) s
+seen-more words i r s g h e =
+    record {
+      within = omega arith;
+      greatest = record { most = λ k l. most k l (decLt k i); least = λ l z f. omega (arith, e, g .greatest .least l z (λ k m. f k (omega arith)), f i (omega arith)) };
+    }
+  where
+    most : (k : ℕ) → k < i + 1 → Dec (k < i) → getD words k 0 ≤ s
+    most k l (yes m) = omega (arith, e, g .greatest .most k m)
+    most k l (no m) = let q : k ≡ i = omega (arith, m) in rw q (omega (arith, e))
+
+pub seen-all : (words : List ℕ) (i r : ℕ) → Seen words i r → length words ≤ i → Greatest (λ k. getD words k 0) (length words) r
+seen-all words i r g h = let e : i ≡ length words = omega (arith, g .within) in rw e at (g .greatest)
