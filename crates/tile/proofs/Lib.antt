@@ -1,0 +1,4 @@
+pub mod Marking
+pub mod Measure
+pub mod Tail
+pub mod Score
