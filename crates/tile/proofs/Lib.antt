@@ -2,3 +2,4 @@ pub mod Marking
 pub mod Measure
 pub mod Tail
 pub mod Score
+pub mod Difference
