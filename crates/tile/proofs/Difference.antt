@@ -12,7 +12,6 @@ use lib.Signed.{mag}
 use mir.Syntax.{w32}
 use mir.Val.{SFits, ofZ, toZ}
 use mir.Facts.{toZ-pos, toZ-ofZ}
-use borrow.Author.Tests.{ltb-false}
 use Rattle.tiling.specs.Listing.{shift}
 
 -- The size of a difference, where `mag` of a negative number is one less than its size.

@@ -1,6 +1,6 @@
 -- Words written to the start of a list's tail: what lies before the tail stays, and so does what lies beyond the words.
 -- Assumes nothing.
-use Prim.Native.Nat.{ℕ, _+_, _-_, _≤_}
+use Prim.Native.Nat.{ℕ, _*_, _-_, _≤_}
 use native.Mathlib.Nat.{not-suc-le-zero, le-of-suc-le-suc}
 use native.Mathlib.Omega.{arith}
 use mathlib.Core.Path.{_≡_, refl}
@@ -9,7 +9,7 @@ use mathlib.Core.List.{List, [], _∷_, _++_, append-assoc, append-nil}
 use lib.ListN.{length, take, drop, set, length-append, length-drop, drop-of-length-le}
 use lib.Seq.{take-all, take-at, drop-at, drop-drop}
 use Rattle.buffer.specs.Buffer.{onto}
-use Rattle.tiling.specs.Listing.{tileWords}
+use Rattle.tiling.specs.Listing.{Entry, tileWords}
 use Rattle.tile.specs.Listed.{listed}
 
 -- Three words stored one by one.
@@ -50,3 +50,18 @@ onto-tail front s b k e =
       append-assoc,
     )
     refl
+
+-- ---- tiles listed one after another
+pub tileWords-append : (es fs : List Entry) → tileWords (es ++ fs) ≡ tileWords es ++ tileWords fs
+unfolding tileWords
+tileWords-append [] fs = refl
+tileWords-append (e ∷ es) fs = rw (tileWords-append es fs) refl
+
+pub length-tileWords : (es : List Entry) → length (tileWords es) ≡ 3 * length es
+unfolding tileWords
+length-tileWords [] = refl
+length-tileWords (e ∷ es) = omega (arith, length-tileWords es)
+
+-- What list_tile leaves is the buffer with one tile more.
+pub listed-more : (es fs : List Entry) (b : List ℕ) → take (3 * length es) (onto (tileWords es) b) ++ onto (tileWords fs) (drop (3 * length es) (onto (tileWords es) b)) ≡ onto (tileWords (es ++ fs)) b
+listed-more es fs b = rw (tileWords-append es fs) (onto-tail (tileWords es) (tileWords fs) b (3 * length es) (length-tileWords es))
