@@ -1,0 +1,5 @@
+pub mod Marking
+pub mod Measure
+pub mod Tail
+pub mod Score
+pub mod Difference

@@ -1,0 +1,43 @@
+-- Marking word by word: a zero written right after a marked stretch makes the stretch one word longer.
+-- Assumes nothing.
+use Prim.Native.Nat.{ℕ, zero, suc, _+_, _≤_, _<_}
+use native.Mathlib.Omega.{arith}
+use native.Mathlib.Numerals.{add-one}
+use mathlib.Core.Path.{_≡_, refl, _∙_, ap}
+use mathlib.Core.List.{List, [], _∷_}
+use lib.ListN.{length, set}
+use Rattle.tiling.specs.Run.{mark}
+use Rattle.tiling.proofs.Run.{length-mark}
+
+-- No word marked.
+pub mark-none : (i : ℕ) (xs : List ℕ) → mark i 0 xs ≡ xs
+unfolding mark
+mark-none i [] = refl
+mark-none (suc i) (x ∷ xs) = ap (λ ys. x ∷ ys) (mark-none i xs)
+mark-none zero (x ∷ xs) = refl
+
+-- One more word marked; past the end neither side changes anything.
+pub mark-more : (i n : ℕ) (xs : List ℕ) → set (mark i n xs) (i + n) 0 ≡ mark i (suc n) xs
+unfolding mark
+mark-more i n [] = refl
+mark-more (suc i) n (x ∷ xs) = let e : suc i + n ≡ suc (i + n) = omega arith in rw e (ap (λ ys. x ∷ ys) (mark-more i n xs))
+mark-more zero zero (x ∷ xs) = rw (mark-none 0 xs) refl
+mark-more zero (suc n) (x ∷ xs) = let e : 0 + suc n ≡ suc (0 + n) = omega arith in rw e (ap (λ ys. 0 ∷ ys) (mark-more zero n xs))
+
+-- ---- the loop of mark_words: i words are marked
+pub record Marked (at len : ℕ) (xs₀ xs : List ℕ) (i : ℕ) : Type 0 where
+  pub within : i ≤ len
+  pub room : at + len ≤ length xs₀
+  pub held : xs ≡ mark at i xs₀
+  pub same : length xs ≡ length xs₀
+
+pub marked-none : (at len : ℕ) (xs : List ℕ) → at + len ≤ length xs → Marked at len xs xs 0
+marked-none at len xs h = record { within = omega arith; room = h; held = rw (mark-none at xs) refl; same = refl }
+
+pub marked-more : (at len : ℕ) (xs₀ xs : List ℕ) (i : ℕ) → Marked at len xs₀ xs i → i < len → Marked at len xs₀ (set xs (at + i) 0) (i + 1)
+marked-more at len xs₀ xs i r h =
+    let e : set xs (at + i) 0 ≡ mark at (i + 1) xs₀ = rw (r .held, mark-more at i xs₀, add-one i) refl in
+    record { within = omega arith; room = r .room; held = e; same = ap length e ∙ length-mark at (i + 1) xs₀ }
+
+pub marked-all : (at len : ℕ) (xs₀ xs : List ℕ) (i : ℕ) → Marked at len xs₀ xs i → len ≤ i → xs ≡ mark at len xs₀
+marked-all at len xs₀ xs i r h = let e : i ≡ len = omega (arith, r .within) in rw e at (r .held)

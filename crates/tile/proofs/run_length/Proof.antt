@@ -1,0 +1,70 @@
+-- `tile::run_length` meets its contract: the words before n match, and the loop ends with a list or at a pair that does not.
+-- Assumes nothing.
+use Prim.Native.Nat.{_-_}
+use lib.ListN.{length}
+use borrow.Author.Tests.{ltb-true, ltb-false}
+use Rattle.tile.proofs.Measure.{Measured, measured-none, measured-more, measured-pattern, measured-text, measured-stop}
+use borrow.Author.Needs.{needs}
+use Rattle.tile.proofs.run_length.Statement.{statement}
+use Rattle.tile.proofs.run_length.Tie as tie
+
+abbrev Inv-loop : tie.InvT-loop
+Inv-loop pattern text n₀ n = Measured pattern text n
+
+abbrev μ-loop : tie.MeasureT-loop
+μ-loop pattern text n₀ n = length pattern - n
+
+loop-holds : tie.Need-loop-holds Inv-loop μ-loop
+loop-holds c = search measured-none
+
+mul-words-match : tie.Need-mul-words-match Inv-loop μ-loop
+mul-words-match c = search needs
+
+shared-slice-read-words-match : tie.Need-shared-slice-read-words-match Inv-loop μ-loop
+shared-slice-read-words-match c = search needs
+
+mul-words-match-2 : tie.Need-mul-words-match-2 Inv-loop μ-loop
+mul-words-match-2 c = search needs
+
+shared-slice-read-words-match-2 : tie.Need-shared-slice-read-words-match-2 Inv-loop μ-loop
+shared-slice-read-words-match-2 c = search needs
+
+words-match-requires : tie.Need-words-match-requires Inv-loop μ-loop
+words-match-requires c κs = search needs
+
+add-n : tie.Need-add-n Inv-loop μ-loop
+add-n c = search needs
+
+loop-less : tie.Need-loop-less Inv-loop μ-loop
+loop-less c = search needs
+
+loop-again : tie.Need-loop-again Inv-loop μ-loop
+loop-again c = search (measured-more, ltb-true)
+
+returns : tie.Need-returns Inv-loop μ-loop
+returns c = search measured-stop
+
+returns-2 : tie.Need-returns-2 Inv-loop μ-loop
+returns-2 c = search (measured-text, ltb-false)
+
+returns-3 : tie.Need-returns-3 Inv-loop μ-loop
+returns-3 c = search measured-pattern
+
+pub run-length-spec : {M : Type 1} → statement M
+run-length-spec =
+    tie.close
+    (tie.spec
+    Inv-loop
+    μ-loop
+    loop-holds
+    mul-words-match
+    shared-slice-read-words-match
+    mul-words-match-2
+    shared-slice-read-words-match-2
+    words-match-requires
+    add-n
+    loop-less
+    loop-again
+    returns
+    returns-2
+    returns-3)
