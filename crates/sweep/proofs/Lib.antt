@@ -1,2 +1,3 @@
+pub mod Workspace
 pub mod Most
 pub mod Row

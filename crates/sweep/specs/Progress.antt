@@ -2,7 +2,7 @@
 use Prim.Native.Nat.{ℕ, _+_, _*_, _/_, _≤_, _<_}
 use mathlib.Core.Path.{_≡_}
 use mathlib.Core.List.{List, _++_, map}
-use lib.ListN.{length, take}
+use lib.ListN.{length, take, drop}
 use Rattle.symbol.specs.Word.{isCall}
 use Rattle.buffer.specs.Buffer.{onto}
 use Rattle.tiling.specs.Tiling.{Tile, State, runAt, best, size, lay}
@@ -11,6 +11,8 @@ use Rattle.tiling.proofs.Tally.{tally}
 use Rattle.tiling.proofs.Greedy.{Greedy}
 use Rattle.tile.specs.Listed.{listed}
 use Rattle.sweep.specs.Workspace.{Space, state, bound}
+use Rattle.sweep.specs.Row.{Row}
+use Rattle.sweep.specs.declared.Found.{Found}
 use Rattle.sweep.specs.declared.Job.{Job}
 use Rattle.sweep.specs.declared.Totals.{Totals}
 
@@ -51,3 +53,9 @@ pub record Sweeping (j : Job) (level p : ℕ) (ws b : List ℕ) (k : Totals) : T
   pub bounded : Bounded j ws level p
   pub long : j .minimum ≤ level
   pub within : p ≤ j .n
+
+-- The row at p was searched, for runs longer than a floor below the level.
+pub record Searched (j : Job) (ws : List ℕ) (level p : ℕ) (f : Found) : Type 0 where
+  pub floor : ℕ
+  pub below : floor < level
+  pub row : Row (drop p (state j ws .pattern)) (state j ws .text) floor f

@@ -7,9 +7,9 @@ ghost use mathlib.Core.List.{_++_};
 ghost use Prim.Native.Nat.{_+_, _≤_, _<_, max};
 ghost use lib.ListN.{length, getD, set};
 ghost use Rattle.buffer.specs.Buffer.{onto};
-ghost use Rattle.sweep.specs.Workspace.{Space, state, boundsFrom, bound, laid};
-ghost use Rattle.sweep.specs.Row.{Row, better, Greatest};
-ghost use Rattle.sweep.specs.Progress.{Sweeping, Onward};
+ghost use Rattle.sweep.specs.Workspace.{Space, boundsFrom, bound, laid};
+ghost use Rattle.sweep.specs.Row.{better, Greatest};
+ghost use Rattle.sweep.specs.Progress.{Searched, Sweeping, Onward};
 
 // What a comparison works on: the lengths of pattern and text, the minimum, and whether the first sequence is the pattern.
 pub struct Job {
@@ -94,6 +94,44 @@ pub fn greatest_bound(ws: &[u32], job: Job) -> usize
     let from = 2 * (job.n + job.m);
     let to = from + job.n;
     wide(greatest(&ws[from..to]))
+}
+
+// Marks the words of a tile on both sequences, and clears the bounds of the rows that it covers.
+fn lay_tile(ws: &mut [u32], job: Job, p: PatternAt, t: TextAt, len: usize)
+    requires { ⌜ Space job (now ws) × (p .0 + len ≤ job .n) × (t .0 + len ≤ job .m) ⌝ }
+    ensures { λ r. ⌜ now (ws .exit) ≡ laid job (p .0) (t .0) len (now (ws .entry)) ⌝ }
+{
+    let rows = 2 * (job.n + job.m) + p.0;
+    tile::mark_words(ws, p.0, len);
+    tile::mark_words(ws, job.n + t.0, len);
+    tile::mark_words(ws, rows, len);
+}
+
+// After the row at p was searched, where its bound is the level: a run of that length is the next tile, since no run is
+// longer and no row before has one as long. A shorter one is the row's new bound.
+pub fn settle(
+    ws: &mut [u32],
+    job: Job,
+    level: usize,
+    p: PatternAt,
+    found: Found,
+    tiles: &mut [u32],
+    totals: Totals,
+) -> Totals
+    requires { ⌜ Sweeping job level (p .0) (now ws) (now tiles) totals × (p .0 < job .n) × Searched job (now ws) level (p .0) found ⌝ }
+    ensures { λ r. ⌜ Sweeping job level (p .0 + 1) (now (ws .exit)) (now (tiles .exit)) r ⌝ }
+    ensures { λ r. ⌜ Onward job (now (ws .entry)) (now (tiles .entry)) totals (now (ws .exit)) (now (tiles .exit)) r ⌝ }
+{
+    if found.len != level {
+        set_bound(ws, job, p, found.len);
+        return totals;
+    }
+    lay_tile(ws, job, p, found.t, level);
+    tile::list_tile(tiles, totals.count, job.straight, p, found.t, level);
+    Totals {
+        count: totals.count + 1,
+        covered: totals.covered + level,
+    }
 }
 
 // Puts pattern and text to the start of the workspace.

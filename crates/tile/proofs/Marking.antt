@@ -1,11 +1,13 @@
 -- Marking word by word: a zero written right after a marked stretch makes the stretch one word longer.
 -- Assumes nothing.
 use Prim.Native.Nat.{ℕ, zero, suc, _+_, _≤_, _<_}
+use native.Mathlib.Nat.{not-suc-le-zero, le-of-suc-le-suc}
 use native.Mathlib.Omega.{arith}
 use native.Mathlib.Numerals.{add-one}
 use mathlib.Core.Path.{_≡_, refl, _∙_, ap}
 use mathlib.Core.List.{List, [], _∷_}
-use lib.ListN.{length, set}
+use lib.ListN.{length, take, drop, set}
+use lib.Seq.{take-nil, drop-nil}
 use Rattle.tiling.specs.Run.{mark}
 use Rattle.tiling.proofs.Run.{length-mark}
 
@@ -23,6 +25,39 @@ mark-more i n [] = refl
 mark-more (suc i) n (x ∷ xs) = let e : suc i + n ≡ suc (i + n) = omega arith in rw e (ap (λ ys. x ∷ ys) (mark-more i n xs))
 mark-more zero zero (x ∷ xs) = rw (mark-none 0 xs) refl
 mark-more zero (suc n) (x ∷ xs) = let e : 0 + suc n ≡ suc (0 + n) = omega arith in rw e (ap (λ ys. 0 ∷ ys) (mark-more zero n xs))
+
+-- ---- marking and the parts of a list
+-- A stretch within the front, past it, before the tail, and within the tail.
+pub take-mark-in : (k i n : ℕ) (xs : List ℕ) → i + n ≤ k → take k (mark i n xs) ≡ mark i n (take k xs)
+unfolding mark
+take-mark-in k i n [] h = rw (take-nil {A = ℕ} k) refl
+take-mark-in zero i zero (x ∷ xs) h = refl
+take-mark-in zero i (suc n) (x ∷ xs) h = absurd (omega arith)
+take-mark-in (suc k) (suc i) n (x ∷ xs) h = ap (λ ys. x ∷ ys) (take-mark-in k i n xs (omega arith))
+take-mark-in (suc k) zero zero (x ∷ xs) h = refl
+take-mark-in (suc k) zero (suc n) (x ∷ xs) h = ap (λ ys. 0 ∷ ys) (take-mark-in k zero n xs (omega arith))
+
+pub take-mark-out : (k i n : ℕ) (xs : List ℕ) → k ≤ i → take k (mark i n xs) ≡ take k xs
+unfolding mark
+take-mark-out k i n [] h = refl
+take-mark-out zero i n (x ∷ xs) h = refl
+take-mark-out (suc k) zero n (x ∷ xs) h = absurd (not-suc-le-zero h)
+take-mark-out (suc k) (suc i) n (x ∷ xs) h = ap (λ ys. x ∷ ys) (take-mark-out k i n xs (le-of-suc-le-suc h))
+
+pub drop-mark-out : (k i n : ℕ) (xs : List ℕ) → i + n ≤ k → drop k (mark i n xs) ≡ drop k xs
+unfolding mark
+drop-mark-out k i n [] h = refl
+drop-mark-out zero i zero (x ∷ xs) h = mark-none i (x ∷ xs)
+drop-mark-out zero i (suc n) (x ∷ xs) h = absurd (omega arith)
+drop-mark-out (suc k) (suc i) n (x ∷ xs) h = drop-mark-out k i n xs (omega arith)
+drop-mark-out (suc k) zero zero (x ∷ xs) h = refl
+drop-mark-out (suc k) zero (suc n) (x ∷ xs) h = drop-mark-out k zero n xs (omega arith)
+
+pub drop-mark-in : (k i n : ℕ) (xs : List ℕ) → drop k (mark (k + i) n xs) ≡ mark i n (drop k xs)
+unfolding mark
+drop-mark-in k i n [] = rw (drop-nil {A = ℕ} k) refl
+drop-mark-in zero i n (x ∷ xs) = let e : 0 + i ≡ i = omega arith in rw e refl
+drop-mark-in (suc k) i n (x ∷ xs) = let e : suc k + i ≡ suc (k + i) = omega arith in rw e (drop-mark-in k i n xs)
 
 -- ---- the loop of mark_words: i words are marked
 pub record Marked (at len : ℕ) (xs₀ xs : List ℕ) (i : ℕ) : Type 0 where

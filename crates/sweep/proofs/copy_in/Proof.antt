@@ -1,6 +1,6 @@
 -- `sweep::copy_in` meets its contract: the pattern stands at the start, and the text is copied to the part after it.
 -- Assumes nothing.
-use Rattle.buffer.proofs.Buffer.{onto-part}
+use Rattle.sweep.proofs.Workspace.{copied-in}
 use borrow.Author.Needs.{needs}
 use Rattle.sweep.proofs.copy_in.Statement.{statement}
 use Rattle.sweep.proofs.copy_in.Tie as tie
@@ -30,7 +30,7 @@ same-length : tie.Need-same-length
 same-length c = search needs
 
 returns : tie.Need-returns
-returns c = search onto-part
+returns c = search copied-in
 
 pub copy-in-spec : {M : Type 1} → statement M
 copy-in-spec =

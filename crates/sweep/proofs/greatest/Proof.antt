@@ -2,6 +2,7 @@
 -- Assumes nothing.
 use Prim.Native.Nat.{_-_}
 use lib.ListN.{length}
+use borrow.Author.Needs.{needs}
 use Rattle.sweep.proofs.Most.{Seen, seen-none, seen-more, seen-all}
 use Rattle.sweep.proofs.greatest.Statement.{statement}
 use Rattle.sweep.proofs.greatest.Tie as tie
