@@ -1,3 +1,4 @@
 pub mod Workspace
 pub mod Most
 pub mod Row
+pub mod Step
