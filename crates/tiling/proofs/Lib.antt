@@ -1,4 +1,5 @@
 pub mod Known
+pub mod Each
 pub mod Run
 pub mod Tally
 pub mod Peak

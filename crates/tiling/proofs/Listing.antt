@@ -7,9 +7,11 @@ use mathlib.Core.List.{List}
 use lib.ListN.{length, getD}
 use Rattle.symbol.specs.Word.{matches}
 use Rattle.symbol.proofs.Word.{match-swap}
+use Rattle.tiling.specs.Each.{Each}
 use Rattle.tiling.specs.Tiling.{Tile, start}
 use Rattle.tiling.specs.Listing.{Entry, firstIsPattern, straight, crossed, listing}
-use Rattle.tiling.proofs.Tiling.{Lies, Each, each-map, tiles-lie}
+use Rattle.tiling.proofs.Each.{each-map}
+use Rattle.tiling.proofs.Tiling.{Lies, tiles-lie}
 
 pub record Stands (first second : List ℕ) (e : Entry) : Type 0 where
   pub in-first : e .first + e .len ≤ length first

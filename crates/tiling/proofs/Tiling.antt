@@ -7,13 +7,14 @@ use native.Mathlib.Decide.{decLe}
 use native.Mathlib.Omega.{arith}
 use mathlib.Core.Path.{_≡_}
 use mathlib.Core.Bool.{true, false}
-use mathlib.Core.List.{List, [], _∷_, map}
+use mathlib.Core.List.{List, [], _∷_}
 use borrow.Author.Tests.{le-leb, lt-leb}
 use lib.Dec.{leb}
 use lib.ListN.{length, drop, getD, length-drop}
 use lib.Seq.{getD-drop}
 use Rattle.symbol.specs.Word.{isCall, matches}
 use Rattle.symbol.proofs.Word.{call-below, match-call}
+use Rattle.tiling.specs.Each.{Each, none, also}
 use Rattle.tiling.specs.Tiling.{Tile, State, best, size, lay, tiling}
 use Rattle.tiling.proofs.Run.{run-within, run-match}
 use Rattle.tiling.proofs.Tally.{tally, tally-length, tally-mark, tally-all}
@@ -89,16 +90,7 @@ lies-before s₀ s k r l =
       matching = λ i h. match-kept (s₀ .pattern) (s .pattern) (s₀ .text) (s .text) (r .on-pattern) (r .on-text) (k .p + i) (k .t + i) (l .matching i h);
     }
 
--- Q holds of each entry of a list.
-pub data Each {A : Type 0} (Q : A → Type 0) : List A → Type 0 where
-  none : Each Q []
-  also : {x : A} {xs : List A} → Q x → Each Q xs → Each Q (x ∷ xs)
-
-pub each-map : {A B : Type 0} {Q : A → Type 0} {R : B → Type 0} (f : A → B) → ((x : A) → Q x → R (f x)) → {xs : List A} → Each Q xs → Each R (map f xs)
-each-map f h none = none
-each-map f h (also {x = x} q r) = also (h x q) (each-map f h r)
-
-laid-lie : (s₀ : State) {minimum : ℕ} {s : State} {ks : List Tile} → 1 ≤ minimum → Worked s₀ s → Greedy best size lay minimum s ks → Each (Lies s₀) ks
+pub laid-lie : (s₀ : State) {minimum : ℕ} {s : State} {ks : List Tile} → 1 ≤ minimum → Worked s₀ s → Greedy best size lay minimum s ks → Each (Lies s₀) ks
 laid-lie s₀ one w (done h) = none
 laid-lie s₀ one w (more {s = s} h g) =
     also (lies-before s₀ s (best s) w (best-lies s (omega arith))) (laid-lie s₀ one (worked-lay s₀ s (best s) w) g)

@@ -17,3 +17,9 @@ module _ {S K : Type 0} (best : S → K) (size : K → ℕ) (lay : S → K → S
   greedy (suc fuel) minimum s =
       elim (leb minimum (size (best s)))
       [ true ↦ best s ∷ greedy fuel minimum (lay s (best s)) | false ↦ [] ]
+
+-- The state after some were laid, one after another.
+module _ {S K : Type 0} (lay : S → K → S) where
+  unfoldable pub after : S → List K → S
+  after s [] = s
+  after s (k ∷ ks) = after (lay s k) ks

@@ -1,3 +1,4 @@
+pub mod Each
 pub mod Run
 pub mod Greedy
 pub mod Tiling
