@@ -6,5 +6,7 @@ pub mod Peak
 pub mod Greedy
 pub mod Best
 pub mod Marked
+pub mod Covered
 pub mod Tiling
+pub mod Left
 pub mod Listing

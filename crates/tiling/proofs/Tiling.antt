@@ -15,9 +15,10 @@ use lib.Seq.{getD-drop}
 use Rattle.symbol.specs.Word.{isCall, matches}
 use Rattle.symbol.proofs.Word.{call-below, match-call}
 use Rattle.tiling.specs.Each.{Each, none, also}
+use Rattle.tiling.specs.Tally.{tally}
 use Rattle.tiling.specs.Tiling.{Tile, State, best, size, lay, tiling}
 use Rattle.tiling.proofs.Run.{run-within, run-match}
-use Rattle.tiling.proofs.Tally.{tally, tally-length, tally-mark, tally-all}
+use Rattle.tiling.proofs.Tally.{tally-length, tally-mark, tally-all}
 use Rattle.tiling.proofs.Greedy.{Greedy, done, more, only, greedy-meets}
 use Rattle.tiling.proofs.Best.{best-is}
 use Rattle.tiling.proofs.Marked.{Worked, worked-none, worked-lay, match-kept}
@@ -49,7 +50,7 @@ best-lies s h =
 abbrev pub calls : State → ℕ
 calls s = tally isCall (s .pattern)
 
-zero-no-call : isCall 0 ≡ false
+pub zero-no-call : isCall 0 ≡ false
 zero-no-call = call-below 0 (omega arith)
 
 pub calls-fall : (s : State) → 1 ≤ best s .len → calls (lay s (best s)) < calls s

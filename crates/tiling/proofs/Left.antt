@@ -1,0 +1,178 @@
+-- What a tiling leaves, and what its tiles take. Runs only shrink, so the lengths never rise; a tile's words match, so they are no
+-- zeros and lie apart from what was marked before; and a tile takes the same calls from both sequences.
+-- Assumes nothing.
+use Prim.Native.Nat.{ℕ, suc, _+_, _*_, _≤_, _<_}
+use native.Mathlib.Nat.{suc-mul}
+use native.Mathlib.Omega.{arith}
+use mathlib.Core.Path.{_≡_, refl, sym, _∙_}
+use mathlib.Core.Bool.{Bool, true, false}
+use mathlib.Core.List.{List, [], _∷_, _++_, map}
+use lib.ListN.{length, take, drop, getD, length-take, length-drop}
+use lib.Seq.{getD-drop, getD-take, ext-getD}
+use Rattle.symbol.specs.Word.{isCall}
+use Rattle.symbol.proofs.Word.{match-call, match-equal}
+use Rattle.tiling.specs.Each.{Pairs, no-pair, before}
+use Rattle.tiling.specs.Tally.{tally}
+use Rattle.tiling.specs.Run.{mark}
+use Rattle.tiling.specs.Greedy.{after}
+use Rattle.tiling.specs.Tiling.{Tile, State, runAt, best, size, lay, tiling}
+use Rattle.tiling.specs.Listing.{straight, covered}
+use Rattle.tiling.specs.Demand.{Covers, Apart}
+use Rattle.tiling.proofs.Run.{zero-left, zero-right}
+use Rattle.tiling.proofs.Each.{each-also}
+use Rattle.tiling.proofs.Tally.{tally-length, tally-mark, tally-all, tally-append}
+use Rattle.tiling.proofs.Greedy.{Greedy, done, more, only, complete, split, never-rise}
+use Rattle.tiling.proofs.Best.{best-is}
+use Rattle.tiling.proofs.Marked.{worked-none, lay-shrinks}
+use Rattle.tiling.proofs.Covered.{marking, marked-apart, Left, all-left}
+use Rattle.tiling.proofs.Tiling.{Lies, best-lies, laid-lie, tiling-greedy, zero-no-call}
+
+abbrev pub start-pattern : Tile → ℕ
+start-pattern k = k .p
+
+abbrev pub start-text : Tile → ℕ
+start-text k = k .t
+
+-- ---- what is left
+-- Every run left is shorter than the minimum.
+pub tiling-complete : (minimum : ℕ) → 1 ≤ minimum → (s : State) (p t : ℕ) → runAt (after lay s (tiling minimum s)) p t < minimum
+tiling-complete minimum one s p t =
+    let l = after lay s (tiling minimum s) in
+    omega (arith, best-is l .most p t, complete (tiling-greedy minimum one s))
+
+-- The tiling at a greater minimum comes first, and then what is left is tiled.
+pub tiling-split : (minimum longer : ℕ) → 1 ≤ minimum → minimum ≤ longer → (s : State) → tiling minimum s ≡ tiling longer s ++ tiling minimum (after lay s (tiling longer s))
+tiling-split minimum longer one le s =
+    only (tiling-greedy minimum one s)
+    (split le (tiling-greedy longer (omega arith) s) (tiling-greedy minimum one (after lay s (tiling longer s))))
+
+-- The lengths never rise.
+best-shrinks : (s : State) → best (lay s (best s)) .len ≤ best s .len
+best-shrinks s =
+    let k = best s in
+    let l = best (lay s k) in
+    omega (arith, best-is (lay s k) .long, lay-shrinks s k (l .p) (l .t), best-is s .most (l .p) (l .t))
+
+pub tiling-falls : (minimum : ℕ) → 1 ≤ minimum → (s : State) → Pairs (λ k l. l .len ≤ k .len) (tiling minimum s)
+tiling-falls minimum one s = never-rise best-shrinks (tiling-greedy minimum one s)
+
+-- ---- which words are left
+-- A word is 0 where a tile covers it, and elsewhere it is what it was. For either side.
+module _ (side : State → List ℕ) (at : Tile → ℕ) (marks : (s : State) (k : Tile) → side (lay s k) ≡ mark (at k) (k .len) (side s)) where
+  after-side : (ks : List Tile) (s : State) → side (after lay s ks) ≡ after (marking at size) (side s) ks
+  unfolding after
+  after-side [] s = refl
+  after-side (k ∷ ks) s = rw (← marks s k) (after-side ks (lay s k))
+
+  side-left : (ks : List Tile) (s : State) (j : ℕ) → Left at size ks (side s) (side (after lay s ks)) j
+  side-left ks s j = rw (after-side ks s) (all-left at size ks (side s) j)
+
+pub pattern-left : (ks : List Tile) (s : State) (j : ℕ) → Left start-pattern size ks (s .pattern) (after lay s ks .pattern) j
+unfolding lay
+pattern-left = side-left (λ s. s .pattern) start-pattern (λ s k. refl)
+
+pub text-left : (ks : List Tile) (s : State) (j : ℕ) → Left start-text size ks (s .text) (after lay s ks .text) j
+unfolding lay
+text-left = side-left (λ s. s .text) start-text (λ s k. refl)
+
+-- ---- no two tiles overlap
+clash : true ≡ false → ⊥
+clash e = let z : _≡_ {A = ℕ} 0 1 = cc in omega arith
+
+-- A tile that lies in what is left after another.
+pattern-apart : (s : State) (k l : Tile) → Lies (lay s k) l → Apart start-pattern size k l
+unfolding lay
+pattern-apart s k l r =
+    marked-apart (k .p) (k .len) (l .p) (l .len) (s .pattern)
+    (λ x h z. clash (sym (r .matching x h) ∙ rw z (zero-left (getD (mark (k .t) (k .len) (s .text)) (l .t + x) 0))))
+
+text-apart : (s : State) (k l : Tile) → Lies (lay s k) l → Apart start-text size k l
+unfolding lay
+text-apart s k l r =
+    marked-apart (k .t) (k .len) (l .t) (l .len) (s .text)
+    (λ x h z. clash (sym (r .matching x h) ∙ rw z (zero-right (getD (mark (k .p) (k .len) (s .pattern)) (l .p + x) 0))))
+
+later : {R : Tile → Tile → Type 0} → ((s : State) (k l : Tile) → Lies (lay s k) l → R k l) → {minimum : ℕ} {s : State} {ks : List Tile} → 1 ≤ minimum → Greedy best size lay minimum s ks → Pairs R ks
+later h one (done k) = no-pair
+later h one (more {s = s} k g) = before (each-also (h s (best s)) (laid-lie (lay s (best s)) one (worked-none (lay s (best s))) g)) (later h one g)
+
+pub tiling-apart-pattern : (minimum : ℕ) → 1 ≤ minimum → (s : State) → Pairs (Apart start-pattern size) (tiling minimum s)
+tiling-apart-pattern minimum one s = later pattern-apart one (tiling-greedy minimum one s)
+
+pub tiling-apart-text : (minimum : ℕ) → 1 ≤ minimum → (s : State) → Pairs (Apart start-text size) (tiling minimum s)
+tiling-apart-text minimum one s = later text-apart one (tiling-greedy minimum one s)
+
+-- ---- what the tiles take
+-- From s to s' these words were taken from each side; n of them are calls.
+pub record Takes (s s' : State) (n : ℕ) : Type 0 where
+  pub words : List ℕ
+  pub whole : tally isCall words ≡ n
+  pub from-pattern : (test : ℕ → Bool) → test 0 ≡ false → tally test (s .pattern) ≡ tally test (s' .pattern) + tally test words
+  pub from-text : (test : ℕ → Bool) → test 0 ≡ false → tally test (s .text) ≡ tally test (s' .text) + tally test words
+
+takes-none : (s : State) → Takes s s 0
+unfolding tally
+takes-none s = record { words = []; whole = refl; from-pattern = λ test z. omega arith; from-text = λ test z. omega arith }
+
+takes-more : (s₀ s s' : State) (m n : ℕ) → Takes s₀ s m → Takes s s' n → Takes s₀ s' (m + n)
+takes-more s₀ s s' m n a b =
+    record {
+      words = a .words ++ b .words;
+      whole = omega (arith, tally-append isCall (a .words) (b .words), a .whole, b .whole);
+      from-pattern = λ test z. omega (arith, tally-append test (a .words) (b .words), a .from-pattern test z, b .from-pattern test z);
+      from-text = λ test z. omega (arith, tally-append test (a .words) (b .words), a .from-text test z, b .from-text test z);
+    }
+
+-- The words of a tile are the same on both sides, and calls.
+same-words : (s : State) (k : Tile) → Lies s k → take (k .len) (drop (k .t) (s .text)) ≡ take (k .len) (drop (k .p) (s .pattern))
+same-words s k l =
+    let xs = drop (k .t) (s .text) in
+    let ys = drop (k .p) (s .pattern) in
+    let a : length (take (k .len) xs) ≡ k .len = omega (arith, length-take (k .len) xs, length-drop (k .t) (s .text), l .in-text) in
+    let b : length (take (k .len) ys) ≡ k .len = omega (arith, length-take (k .len) ys, length-drop (k .p) (s .pattern), l .in-pattern) in
+    ext-getD 0 (take (k .len) xs) (take (k .len) ys) (a ∙ sym b)
+    (λ i h.
+    let m : i < k .len = omega (arith, a, h) in
+    rw (getD-take (k .len) xs i 0 m, getD-take (k .len) ys i 0 m, getD-drop (k .t) (s .text) i 0, getD-drop (k .p) (s .pattern) i 0)
+    (sym (match-equal _ _ (l .matching i m))))
+
+takes-tile : (s : State) (k : Tile) → Lies s k → Takes s (lay s k) (k .len)
+unfolding lay
+takes-tile s k l =
+    record {
+      words = take (k .len) (drop (k .p) (s .pattern));
+      whole =
+          tally-all isCall (k .len) (drop (k .p) (s .pattern)) (omega (arith, length-drop (k .p) (s .pattern), l .in-pattern))
+          (λ i m. rw (getD-drop (k .p) (s .pattern) i 0) (match-call _ _ (l .matching i m)));
+      from-pattern = λ test z. tally-mark test z (k .p) (k .len) (s .pattern);
+      from-text = λ test z. rw (← same-words s k l) (tally-mark test z (k .t) (k .len) (s .text));
+    }
+
+laid-take : {minimum : ℕ} {s : State} {ks : List Tile} → 1 ≤ minimum → Greedy best size lay minimum s ks → Takes s (after lay s ks) (covered (map straight ks))
+unfolding after covered
+laid-take one (done {s = s} h) = takes-none s
+laid-take one (more {s = s} {ks = ks} h g) =
+    takes-more s (lay s (best s)) (after lay (lay s (best s)) ks) (best s .len) (covered (map straight ks))
+    (takes-tile s (best s) (best-lies s (omega arith))) (laid-take one g)
+
+pub tiling-takes : (minimum : ℕ) → 1 ≤ minimum → (s : State) → Takes s (after lay s (tiling minimum s)) (covered (map straight (tiling minimum s)))
+tiling-takes minimum one s = laid-take one (tiling-greedy minimum one s)
+
+-- ---- how much the tiles cover
+pub covered-pattern : (minimum : ℕ) → 1 ≤ minimum → (s : State) → covered (map straight (tiling minimum s)) ≤ length (s .pattern)
+covered-pattern minimum one s =
+    let r = tiling-takes minimum one s in
+    omega (arith, r .whole, r .from-pattern isCall zero-no-call, tally-length isCall (s .pattern))
+
+pub covered-text : (minimum : ℕ) → 1 ≤ minimum → (s : State) → covered (map straight (tiling minimum s)) ≤ length (s .text)
+covered-text minimum one s =
+    let r = tiling-takes minimum one s in
+    omega (arith, r .whole, r .from-text isCall zero-no-call, tally-length isCall (s .text))
+
+laid-cover : {minimum : ℕ} {s : State} {ks : List Tile} → Greedy best size lay minimum s ks → length ks * minimum ≤ covered (map straight ks)
+unfolding covered
+laid-cover {minimum = minimum} (done h) = omega arith
+laid-cover {minimum = minimum} (more {ks = ks} h g) = rw (suc-mul (length ks) minimum) (omega (arith, laid-cover g))
+
+pub tiling-covers : (minimum : ℕ) → 1 ≤ minimum → (s : State) → length (tiling minimum s) * minimum ≤ covered (map straight (tiling minimum s))
+tiling-covers minimum one s = laid-cover (tiling-greedy minimum one s)

@@ -1,0 +1,60 @@
+-- What demand 3 says of the tiles listed for two sequences.
+use Prim.Native.Nat.{ℕ, zero, suc, _+_, _≤_, _<_, min}
+use mathlib.Core.Path.{_≡_}
+use mathlib.Core.Bool.{true, _&&_}
+use mathlib.Core.List.{List, [], _∷_}
+use lib.Dec.{eqb}
+use lib.ListN.{length, getD, drop}
+use Rattle.symbol.specs.Word.{isCall, code, matches}
+use Rattle.tiling.specs.Each.{Each}
+use Rattle.tiling.specs.Tally.{tally}
+use Rattle.tiling.specs.Listing.{Entry}
+
+-- A tile of this length covers position j of the sequence on which it starts here.
+pub record Covers (start len j : ℕ) : Type 0 where
+  pub least : start ≤ j
+  pub most : j < start + len
+
+-- "A word is free when no listed tile covers it on its strand." Which sequence is meant is said by which start is taken.
+abbrev pub Free : {K : Type 0} → (K → ℕ) → (K → ℕ) → List K → ℕ → Type 0
+Free start len tiles j = Each (λ k. Covers (start k) (len k) j → ⊥) tiles
+
+-- No position is covered by both tiles.
+abbrev pub Apart : {K : Type 0} → (K → ℕ) → (K → ℕ) → K → K → Type 0
+Apart start len k l = (j : ℕ) → Covers (start k) (len k) j → Covers (start l) (len l) j → ⊥
+
+abbrev pub onFirst : Entry → ℕ
+onFirst e = e .first
+
+abbrev pub onSecond : Entry → ℕ
+onSecond e = e .second
+
+abbrev pub long : Entry → ℕ
+long e = e .len
+
+-- "A free matching run of the minimum length is a place on each strand from which that many words, all free, match one by one."
+pub record FreeRun (first second : List ℕ) (tiles : List Entry) (n i j : ℕ) : Type 0 where
+  pub in-first : i + n ≤ length first
+  pub in-second : j + n ≤ length second
+  pub free-first : (x : ℕ) → x < n → Free onFirst long tiles (i + x)
+  pub free-second : (x : ℕ) → x < n → Free onSecond long tiles (j + x)
+  pub matching : (x : ℕ) → x < n → matches (getD first (i + x) 0) (getD second (j + x) 0) ≡ true
+
+-- "A code's number of calls on a strand counts the words there that are calls with it."
+abbrev pub callsWith : ℕ → List ℕ → ℕ
+callsWith c s = tally (λ w. isCall w && eqb (code w) c) s
+
+-- "the sum, over all codes, of the smaller of its numbers of calls on the two strands": over the codes below n.
+unfoldable pub smallerCounts : ℕ → List ℕ → List ℕ → ℕ
+smallerCounts zero first second = 0
+smallerCounts (suc n) first second = min (callsWith n first) (callsWith n second) + smallerCounts n first second
+
+-- "Exchanging sides swaps the two starts of each tile and leaves the rest of it and its place in the list."
+abbrev pub exchanged : Entry → Entry
+exchanged e = record { first = e .second; second = e .first; len = e .len }
+
+-- The first n tiles of a tile buffer. "A tile is three words in the tile buffer: start on the first strand, start on the second
+-- strand, length."
+unfoldable pub tilesIn : ℕ → List ℕ → List Entry
+tilesIn zero buffer = []
+tilesIn (suc n) buffer = record { first = getD buffer 0 0; second = getD buffer 1 0; len = getD buffer 2 0 } ∷ tilesIn n (drop 3 buffer)
