@@ -9,4 +9,5 @@ pub mod Marked
 pub mod Covered
 pub mod Tiling
 pub mod Left
+pub mod Codes
 pub mod Listing

@@ -57,3 +57,20 @@ module _ (test : ℕ → Bool) where
       go : (1 ≤ tally test xs → Passes xs) → (b : Bool) → test x ≡ b → Passes (x ∷ xs)
       go f true e = record { position = 0; passes = e }
       go f false e = let k : 1 ≤ 0 + tally test xs = rw e at h in let r = f (omega arith) in record { position = suc (r .position); passes = r .passes }
+
+-- ---- several tests
+pub tally-none : {f : ℕ → Bool} → ((w : ℕ) → f w ≡ false) → (xs : List ℕ) → tally f xs ≡ 0
+unfolding tally
+tally-none h [] = refl
+tally-none h (x ∷ xs) = rw (h x) (omega (arith, tally-none h xs))
+
+pub tally-same : {f g : ℕ → Bool} → ((w : ℕ) → f w ≡ g w) → (xs : List ℕ) → tally f xs ≡ tally g xs
+unfolding tally
+tally-same h [] = refl
+tally-same h (x ∷ xs) = rw (h x, tally-same h xs) refl
+
+-- Where each word that passes h passes just one of f and g.
+pub tally-add : (f g h : ℕ → Bool) → ((w : ℕ) → one (f w) + one (g w) ≡ one (h w)) → (xs : List ℕ) → tally f xs + tally g xs ≡ tally h xs
+unfolding tally
+tally-add f g h e [] = refl
+tally-add f g h e (x ∷ xs) = omega (arith, e x, tally-add f g h e xs)

@@ -1,7 +1,7 @@
 -- What demand 3 says of the tiles listed for two sequences.
 use Prim.Native.Nat.{ℕ, zero, suc, _+_, _≤_, _<_, min}
 use mathlib.Core.Path.{_≡_}
-use mathlib.Core.Bool.{true, _&&_}
+use mathlib.Core.Bool.{Bool, true, _&&_}
 use mathlib.Core.List.{List, [], _∷_}
 use lib.Dec.{eqb}
 use lib.ListN.{length, getD, drop}
@@ -41,8 +41,11 @@ pub record FreeRun (first second : List ℕ) (tiles : List Entry) (n i j : ℕ) 
   pub matching : (x : ℕ) → x < n → matches (getD first (i + x) 0) (getD second (j + x) 0) ≡ true
 
 -- "A code's number of calls on a strand counts the words there that are calls with it."
+abbrev pub isCallWith : ℕ → ℕ → Bool
+isCallWith c w = isCall w && eqb (code w) c
+
 abbrev pub callsWith : ℕ → List ℕ → ℕ
-callsWith c s = tally (λ w. isCall w && eqb (code w) c) s
+callsWith c s = tally (isCallWith c) s
 
 -- "the sum, over all codes, of the smaller of its numbers of calls on the two strands": over the codes below n.
 unfoldable pub smallerCounts : ℕ → List ℕ → List ℕ → ℕ
