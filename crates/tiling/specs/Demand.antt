@@ -1,14 +1,14 @@
 -- What demand 3 says of the tiles listed for two sequences.
-use Prim.Native.Nat.{ℕ, zero, suc, _+_, _≤_, _<_, min}
+use Prim.Native.Nat.{ℕ, zero, suc, _+_, _*_, _≤_, _<_, _^_, min}
 use mathlib.Core.Path.{_≡_}
 use mathlib.Core.Bool.{Bool, true, _&&_}
 use mathlib.Core.List.{List, [], _∷_}
 use lib.Dec.{eqb}
 use lib.ListN.{length, getD, drop}
 use Rattle.symbol.specs.Word.{isCall, code, matches}
-use Rattle.tiling.specs.Each.{Each}
+use Rattle.tiling.specs.Each.{Each, Pairs}
 use Rattle.tiling.specs.Tally.{tally}
-use Rattle.tiling.specs.Listing.{Entry}
+use Rattle.tiling.specs.Listing.{Entry, covered}
 
 -- A tile of this length covers position j of the sequence on which it starts here.
 pub record Covers (start len j : ℕ) : Type 0 where
@@ -51,6 +51,21 @@ callsWith c s = tally (isCallWith c) s
 unfoldable pub smallerCounts : ℕ → List ℕ → List ℕ → ℕ
 smallerCounts zero first second = 0
 smallerCounts (suc n) first second = min (callsWith n first) (callsWith n second) + smallerCounts n first second
+
+-- What holds of the tiles listed at a minimum, whichever engine lists them.
+pub record Tiled (first second : List ℕ) (minimum : ℕ) (tiles : List Entry) : Type 0 where
+  -- "After either engine no matching run of the minimum length is free on both strands."
+  pub no-free-run : (i j : ℕ) → FreeRun first second tiles minimum i j → ⊥
+  -- "At minimum 1, covered = the sum, over all codes, of the smaller of its numbers of calls on the two strands."
+  pub at-one : minimum ≡ 1 → covered tiles ≡ smallerCounts (2 ^ 16) first second
+  -- No tile is longer than an earlier one, and no two overlap on either sequence.
+  pub falling : Pairs (λ d e. e .len ≤ d .len) tiles
+  pub apart-first : Pairs (Apart onFirst long) tiles
+  pub apart-second : Pairs (Apart onSecond long) tiles
+  -- The tiles fit into each sequence, and each has at least the minimum.
+  pub within-first : covered tiles ≤ length first
+  pub within-second : covered tiles ≤ length second
+  pub each-long : length tiles * minimum ≤ covered tiles
 
 -- "Exchanging sides swaps the two starts of each tile and leaves the rest of it and its place in the list."
 abbrev pub exchanged : Entry → Entry
