@@ -3,24 +3,25 @@
 -- sequence either way, so exchanging the sequences only turns the sides.
 -- Assumes nothing.
 use Prim.Native.Nat.{ℕ, _+_, _*_, _/_, _≤_, _<_, _^_, min}
-use native.Mathlib.Nat.{add-comm, le-div-iff-mul-le}
+use native.Mathlib.Nat.{add-comm, suc-mul, le-div-iff-mul-le}
 use native.Mathlib.Decide.{decLt}
 use native.Mathlib.Omega.{arith}
 use mathlib.Core.Path.{_≡_, refl, sym, _∙_, ap}
 use mathlib.Core.Bool.{Bool, true, false}
-use mathlib.Core.List.{List, [], _∷_, _++_, map, map-map}
+use mathlib.Core.List.{List, [], _∷_, _++_, map, map-map, map-append}
 use borrow.Author.Tests.{le-leb, lt-leb}
 use lib.ListN.{length, drop, getD, length-map}
 use lib.Seq.{getD-drop}
 use Rattle.symbol.proofs.Word.{match-swap}
-use Rattle.tiling.specs.Each.{Each, Pairs}
+use Rattle.tiling.specs.Each.{Each, none, also, Pairs}
 use Rattle.tiling.specs.Greedy.{after}
 use Rattle.tiling.specs.Tiling.{Tile, State, start, runAt, size, lay, tiling}
 use Rattle.tiling.specs.Listing.{Entry, firstIsPattern, straight, crossed, listing, covered, score}
-use Rattle.tiling.specs.Demand.{Free, FreeRun, Apart, onFirst, onSecond, long, callsWith, smallerCounts, exchanged, Tiled}
+use Rattle.tiling.specs.Demand.{Free, FreeRun, Stands, Apart, onFirst, onSecond, long, callsWith, smallerCounts, exchanged, Tiled, Begins}
 use Rattle.tiling.proofs.Run.{run-least}
-use Rattle.tiling.proofs.Each.{each-unmap, pairs-map}
-use Rattle.tiling.proofs.Left.{tiling-complete, tiling-falls, pattern-left, text-left, tiling-apart-pattern, tiling-apart-text, covered-pattern, covered-text, tiling-covers}
+use Rattle.tiling.proofs.Each.{each-map, each-unmap, pairs-map}
+use Rattle.tiling.proofs.Tiling.{Lies, tiles-lie}
+use Rattle.tiling.proofs.Left.{tiling-complete, tiling-falls, pattern-left, text-left, tiling-apart-pattern, tiling-apart-text, covered-pattern, covered-text, tiling-long, tiling-begins}
 use Rattle.tiling.proofs.Codes.{smaller-same, at-one, code-below}
 
 -- ---- the first sequence as the pattern
@@ -39,18 +40,22 @@ straight-no-run first second minimum one i j r =
     (r .matching x h)) in
     omega (arith, n, tiling-complete minimum one s i j)
 
+straight-stands : (first second : List ℕ) (k : Tile) → Lies (start first second) k → Stands first second (straight k)
+straight-stands first second k l = record { in-first = l .in-pattern; in-second = l .in-text; matching = l .matching }
+
 straight-tiled : (first second : List ℕ) (minimum : ℕ) → 1 ≤ minimum → Tiled first second minimum (map straight (tiling minimum (start first second)))
 straight-tiled first second minimum one =
     let s = start first second in
     record {
       no-free-run = straight-no-run first second minimum one;
       at-one = λ e. rw e (at-one (2 ^ 16) code-below s);
+      stands = each-map straight (straight-stands first second) (tiles-lie minimum one s);
+      each-long = each-map straight (λ k h. h) (tiling-long minimum one s);
       falling = pairs-map straight (λ k l h. h) (tiling-falls minimum one s);
       apart-first = pairs-map straight (λ k l h. h) (tiling-apart-pattern minimum one s);
       apart-second = pairs-map straight (λ k l h. h) (tiling-apart-text minimum one s);
       within-first = covered-pattern minimum one s;
       within-second = covered-text minimum one s;
-      each-long = rw (length-map (tiling minimum s) straight) (tiling-covers minimum one s);
     }
 
 -- ---- turning the sides
@@ -69,18 +74,22 @@ run-exchanged first second tiles n i j r =
       matching = λ x h. match-swap _ _ (r .matching x h);
     }
 
+exchanged-stands : (first second : List ℕ) (e : Entry) → Stands first second e → Stands second first (exchanged e)
+exchanged-stands first second e r = record { in-first = r .in-second; in-second = r .in-first; matching = λ i h. match-swap _ _ (r .matching i h) }
+
 exchanged-tiled : (first second : List ℕ) (minimum : ℕ) (tiles : List Entry) → Tiled first second minimum tiles → Tiled second first minimum (map exchanged tiles)
 exchanged-tiled first second minimum tiles r =
     let n = covered-exchanged tiles in
     record {
       no-free-run = λ i j f. r .no-free-run j i (run-exchanged first second tiles minimum i j f);
       at-one = λ e. n ∙ (r .at-one e ∙ smaller-same first second second first (λ c. omega arith) (2 ^ 16));
+      stands = each-map exchanged (exchanged-stands first second) (r .stands);
+      each-long = each-map exchanged (λ e h. h) (r .each-long);
       falling = pairs-map exchanged (λ d e h. h) (r .falling);
       apart-first = pairs-map exchanged (λ d e h. h) (r .apart-second);
       apart-second = pairs-map exchanged (λ d e h. h) (r .apart-first);
       within-first = omega (arith, n, r .within-second);
       within-second = omega (arith, n, r .within-first);
-      each-long = rw (length-map tiles exchanged, n) (r .each-long);
     }
 
 -- ---- the listing
@@ -139,6 +148,10 @@ no-free-run first second minimum one = listing-tiled first second minimum one .n
 pub covered-at-one : (first second : List ℕ) → covered (listing first second 1) ≡ smallerCounts (2 ^ 16) first second
 covered-at-one first second = listing-tiled first second 1 (omega arith) .at-one refl
 
+-- Each listed tile lies within both sequences, and its words match one by one.
+pub listing-stands : (first second : List ℕ) (minimum : ℕ) → 1 ≤ minimum → Each (Stands first second) (listing first second minimum)
+listing-stands first second minimum one = listing-tiled first second minimum one .stands
+
 pub lengths-fall : (first second : List ℕ) (minimum : ℕ) → 1 ≤ minimum → Pairs (λ d e. e .len ≤ d .len) (listing first second minimum)
 lengths-fall first second minimum one = listing-tiled first second minimum one .falling
 
@@ -154,11 +167,33 @@ covered-first first second minimum one = listing-tiled first second minimum one 
 pub covered-second : (first second : List ℕ) (minimum : ℕ) → 1 ≤ minimum → covered (listing first second minimum) ≤ length second
 covered-second first second minimum one = listing-tiled first second minimum one .within-second
 
+covered-least : {minimum : ℕ} {tiles : List Entry} → Each (λ e. minimum ≤ e .len) tiles → length tiles * minimum ≤ covered tiles
+unfolding covered
+covered-least none = omega arith
+covered-least {minimum = minimum} (also {xs = tiles} h r) = rw (suc-mul (length tiles) minimum) (omega (arith, covered-least r))
+
 -- The tiles fit into a tile buffer of "3 × (shorter length divided by minimum, rounded down) words".
 pub tiles-fit : (first second : List ℕ) (minimum : ℕ) → 1 ≤ minimum → 3 * length (listing first second minimum) ≤ 3 * (min (length first) (length second) / minimum)
 tiles-fit first second minimum one =
     let r = listing-tiled first second minimum one in
     let n : length (listing first second minimum) * minimum ≤ min (length first) (length second) =
-    omega (arith, r .each-long, r .within-first, r .within-second) in
+    omega (arith, covered-least (r .each-long), r .within-first, r .within-second) in
     let m : length (listing first second minimum) ≤ min (length first) (length second) / minimum = le-div-iff-mul-le one .1 n in
     omega (arith, m)
+
+-- ---- a greater minimum
+begins-map : (f : Tile → Entry) → ((k : Tile) → f k .len ≡ k .len) → (longer : ℕ) (ks ls : List Tile) → Begins size longer ks ls → Begins long longer (map f ks) (map f ls)
+begins-map f e longer ks ls r =
+    record {
+      rest = map f (r .rest);
+      whole = ap (λ xs. map f xs) (r .whole) ∙ map-append f ks (r .rest);
+      short = each-map f (λ k h. rw (e k) h) (r .short);
+    }
+
+pub listing-begins : (first second : List ℕ) (minimum longer : ℕ) → 1 ≤ minimum → minimum ≤ longer → Begins long longer (listing first second longer) (listing first second minimum)
+unfolding listing
+listing-begins first second minimum longer one le = go (firstIsPattern first second)
+  where
+    go : (b : Bool) → Begins long longer (elim b [ true ↦ map straight (tiling longer (start first second)) | false ↦ map crossed (tiling longer (start second first)) ]) (elim b [ true ↦ map straight (tiling minimum (start first second)) | false ↦ map crossed (tiling minimum (start second first)) ])
+    go true = begins-map straight (λ k. refl) longer _ _ (tiling-begins minimum longer one le (start first second))
+    go false = begins-map crossed (λ k. refl) longer _ _ (tiling-begins minimum longer one le (start second first))

@@ -25,11 +25,15 @@ module _ {S K : Type 0} {best : S → K} {size : K → ℕ} {lay : S → K → S
   only (more h g) (done k) = absurd (omega arith)
   only {s = s} (more h g) (more k j) = ap (λ xs. best s ∷ xs) (only g j)
 
-  -- When all are laid, nothing long enough is left.
+  -- When all are laid, nothing long enough is left; and all that were laid are long enough.
   pub complete : {minimum : ℕ} {s : S} {ks : List K} → Greedy best size lay minimum s ks → size (best (after lay s ks)) < minimum
   unfolding after
   complete (done h) = h
   complete (more h g) = complete g
+
+  pub at-least : {minimum : ℕ} {s : S} {ks : List K} → Greedy best size lay minimum s ks → Each (λ k. minimum ≤ size k) ks
+  at-least (done h) = none
+  at-least (more h g) = also h (at-least g)
 
   -- Those of at least a greater minimum come first, and then what is laid at the minimum from there.
   pub split : {minimum longer : ℕ} {s : S} {ks ls : List K} → minimum ≤ longer → Greedy best size lay longer s ks → Greedy best size lay minimum (after lay s ks) ls → Greedy best size lay minimum s (ks ++ ls)
@@ -39,7 +43,7 @@ module _ {S K : Type 0} {best : S → K} {size : K → ℕ} {lay : S → K → S
 
   -- Where laying the best never makes a longer best, no later one is longer.
   module _ (shrinks : (s : S) → size (best (lay s (best s))) ≤ size (best s)) where
-    bounded : {minimum n : ℕ} {s : S} {ks : List K} → size (best s) ≤ n → Greedy best size lay minimum s ks → Each (λ k. size k ≤ n) ks
+    pub bounded : {minimum n : ℕ} {s : S} {ks : List K} → size (best s) ≤ n → Greedy best size lay minimum s ks → Each (λ k. size k ≤ n) ks
     bounded h (done k) = none
     bounded h (more {s = s} k g) = also h (bounded (omega (arith, shrinks s)) g)
 

@@ -1,8 +1,7 @@
 -- What a tiling leaves, and what its tiles take. Runs only shrink, so the lengths never rise; a tile's words match, so they are no
 -- zeros and lie apart from what was marked before; and a tile takes the same calls from both sequences.
 -- Assumes nothing.
-use Prim.Native.Nat.{ℕ, suc, _+_, _*_, _≤_, _<_}
-use native.Mathlib.Nat.{suc-mul}
+use Prim.Native.Nat.{ℕ, suc, _+_, _-_, _≤_, _<_}
 use native.Mathlib.Omega.{arith}
 use mathlib.Core.Path.{_≡_, refl, sym, _∙_}
 use mathlib.Core.Bool.{Bool, true, false}
@@ -11,17 +10,17 @@ use lib.ListN.{length, take, drop, getD, length-take, length-drop}
 use lib.Seq.{getD-drop, getD-take, ext-getD}
 use Rattle.symbol.specs.Word.{isCall}
 use Rattle.symbol.proofs.Word.{match-call, match-equal}
-use Rattle.tiling.specs.Each.{Pairs, no-pair, before}
+use Rattle.tiling.specs.Each.{Each, Pairs, no-pair, before}
 use Rattle.tiling.specs.Tally.{tally}
 use Rattle.tiling.specs.Run.{mark}
 use Rattle.tiling.specs.Greedy.{after}
 use Rattle.tiling.specs.Tiling.{Tile, State, runAt, best, size, lay, tiling}
 use Rattle.tiling.specs.Listing.{straight, covered}
-use Rattle.tiling.specs.Demand.{Covers, Apart}
+use Rattle.tiling.specs.Demand.{Covers, Apart, Begins}
 use Rattle.tiling.proofs.Run.{zero-left, zero-right}
 use Rattle.tiling.proofs.Each.{each-also}
 use Rattle.tiling.proofs.Tally.{tally-length, tally-mark, tally-all, tally-append}
-use Rattle.tiling.proofs.Greedy.{Greedy, done, more, only, complete, split, never-rise}
+use Rattle.tiling.proofs.Greedy.{Greedy, done, more, only, complete, at-least, split, bounded, never-rise}
 use Rattle.tiling.proofs.Best.{best-is}
 use Rattle.tiling.proofs.Marked.{worked-none, lay-shrinks}
 use Rattle.tiling.proofs.Covered.{marking, marked-apart, Left, all-left}
@@ -55,6 +54,20 @@ best-shrinks s =
 
 pub tiling-falls : (minimum : ℕ) → 1 ≤ minimum → (s : State) → Pairs (λ k l. l .len ≤ k .len) (tiling minimum s)
 tiling-falls minimum one s = never-rise best-shrinks (tiling-greedy minimum one s)
+
+pub tiling-long : (minimum : ℕ) → 1 ≤ minimum → (s : State) → Each (λ k. minimum ≤ k .len) (tiling minimum s)
+tiling-long minimum one s = at-least (tiling-greedy minimum one s)
+
+-- What comes after the tiling at a greater minimum is shorter.
+pub tiling-begins : (minimum longer : ℕ) → 1 ≤ minimum → minimum ≤ longer → (s : State) → Begins size longer (tiling longer s) (tiling minimum s)
+tiling-begins minimum longer one le s =
+    let l = after lay s (tiling longer s) in
+    let h = complete (tiling-greedy longer (omega arith) s) in
+    record {
+      rest = tiling minimum l;
+      whole = tiling-split minimum longer one le s;
+      short = each-also (λ k m. omega (arith, m, h)) (bounded best-shrinks {n = longer - 1} (omega (arith, h)) (tiling-greedy minimum one l));
+    }
 
 -- ---- which words are left
 -- A word is 0 where a tile covers it, and elsewhere it is what it was. For either side.
@@ -168,11 +181,3 @@ pub covered-text : (minimum : ℕ) → 1 ≤ minimum → (s : State) → covered
 covered-text minimum one s =
     let r = tiling-takes minimum one s in
     omega (arith, r .whole, r .from-text isCall zero-no-call, tally-length isCall (s .text))
-
-laid-cover : {minimum : ℕ} {s : State} {ks : List Tile} → Greedy best size lay minimum s ks → length ks * minimum ≤ covered (map straight ks)
-unfolding covered
-laid-cover {minimum = minimum} (done h) = omega arith
-laid-cover {minimum = minimum} (more {ks = ks} h g) = rw (suc-mul (length ks) minimum) (omega (arith, laid-cover g))
-
-pub tiling-covers : (minimum : ℕ) → 1 ≤ minimum → (s : State) → length (tiling minimum s) * minimum ≤ covered (map straight (tiling minimum s))
-tiling-covers minimum one s = laid-cover (tiling-greedy minimum one s)

@@ -10,5 +10,4 @@ pub mod Covered
 pub mod Tiling
 pub mod Left
 pub mod Codes
-pub mod Listing
 pub mod Demand

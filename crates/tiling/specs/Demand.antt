@@ -1,8 +1,8 @@
 -- What demand 3 says of the tiles listed for two sequences.
-use Prim.Native.Nat.{ℕ, zero, suc, _+_, _*_, _≤_, _<_, _^_, min}
+use Prim.Native.Nat.{ℕ, zero, suc, _+_, _≤_, _<_, _^_, min}
 use mathlib.Core.Path.{_≡_}
 use mathlib.Core.Bool.{Bool, true, _&&_}
-use mathlib.Core.List.{List, [], _∷_}
+use mathlib.Core.List.{List, [], _∷_, _++_}
 use lib.Dec.{eqb}
 use lib.ListN.{length, getD, drop}
 use Rattle.symbol.specs.Word.{isCall, code, matches}
@@ -40,6 +40,12 @@ pub record FreeRun (first second : List ℕ) (tiles : List Entry) (n i j : ℕ) 
   pub free-second : (x : ℕ) → x < n → Free onSecond long tiles (j + x)
   pub matching : (x : ℕ) → x < n → matches (getD first (i + x) 0) (getD second (j + x) 0) ≡ true
 
+-- A tile lies within both sequences, and its words match one by one.
+pub record Stands (first second : List ℕ) (e : Entry) : Type 0 where
+  pub in-first : e .first + e .len ≤ length first
+  pub in-second : e .second + e .len ≤ length second
+  pub matching : (i : ℕ) → i < e .len → matches (getD first (e .first + i) 0) (getD second (e .second + i) 0) ≡ true
+
 -- "A code's number of calls on a strand counts the words there that are calls with it."
 abbrev pub isCallWith : ℕ → ℕ → Bool
 isCallWith c w = isCall w && eqb (code w) c
@@ -58,14 +64,22 @@ pub record Tiled (first second : List ℕ) (minimum : ℕ) (tiles : List Entry) 
   pub no-free-run : (i j : ℕ) → FreeRun first second tiles minimum i j → ⊥
   -- "At minimum 1, covered = the sum, over all codes, of the smaller of its numbers of calls on the two strands."
   pub at-one : minimum ≡ 1 → covered tiles ≡ smallerCounts (2 ^ 16) first second
+  -- Each tile lies in both sequences, its words match, and it has at least the minimum.
+  pub stands : Each (Stands first second) tiles
+  pub each-long : Each (λ e. minimum ≤ e .len) tiles
   -- No tile is longer than an earlier one, and no two overlap on either sequence.
   pub falling : Pairs (λ d e. e .len ≤ d .len) tiles
   pub apart-first : Pairs (Apart onFirst long) tiles
   pub apart-second : Pairs (Apart onSecond long) tiles
-  -- The tiles fit into each sequence, and each has at least the minimum.
+  -- Covered is at most each length.
   pub within-first : covered tiles ≤ length first
   pub within-second : covered tiles ≤ length second
-  pub each-long : length tiles * minimum ≤ covered tiles
+
+-- "the tiles at a greater minimum are exactly the first tiles at a smaller one, down to the last tile long enough."
+pub record Begins {K : Type 0} (len : K → ℕ) (longer : ℕ) (tiles all : List K) : Type 0 where
+  pub rest : List K
+  pub whole : all ≡ tiles ++ rest
+  pub short : Each (λ k. len k < longer) rest
 
 -- "Exchanging sides swaps the two starts of each tile and leaves the rest of it and its place in the list."
 abbrev pub exchanged : Entry → Entry
