@@ -11,3 +11,4 @@ pub mod Tiling
 pub mod Left
 pub mod Codes
 pub mod Demand
+pub mod Answers

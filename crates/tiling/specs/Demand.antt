@@ -2,13 +2,14 @@
 use Prim.Native.Nat.{ℕ, zero, suc, _+_, _≤_, _<_, _^_, min}
 use mathlib.Core.Path.{_≡_}
 use mathlib.Core.Bool.{Bool, true, _&&_}
-use mathlib.Core.List.{List, [], _∷_, _++_}
+use mathlib.Core.List.{List, [], _∷_, _++_, map}
 use lib.Dec.{eqb}
 use lib.ListN.{length, getD, drop}
 use Rattle.symbol.specs.Word.{isCall, code, matches}
 use Rattle.tiling.specs.Each.{Each, Pairs}
 use Rattle.tiling.specs.Tally.{tally}
 use Rattle.tiling.specs.Listing.{Entry, covered}
+use Rattle.tiling.specs.declared.Compared.{Compared}
 
 -- A tile of this length covers position j of the sequence on which it starts here.
 pub record Covers (start len j : ℕ) : Type 0 where
@@ -90,3 +91,15 @@ exchanged e = record { first = e .second; second = e .first; len = e .len }
 unfoldable pub tilesIn : ℕ → List ℕ → List Entry
 tilesIn zero buffer = []
 tilesIn (suc n) buffer = record { first = getD buffer 0 0; second = getD buffer 1 0; len = getD buffer 2 0 } ∷ tilesIn n (drop 3 buffer)
+
+-- The tiles that a comparison lists: "the words of the tile buffer through the last tile".
+abbrev pub listed : Compared → List ℕ → List Entry
+listed a buffer = tilesIn (a .tiles) buffer
+
+-- Two comparisons of which the second had the sequences exchanged: "only exchanges the sides of each tile: order, lengths, tile count,
+-- covered and score are equal."
+pub record Exchanges (a : Compared) (buffer : List ℕ) (a' : Compared) (buffer' : List ℕ) : Type 0 where
+  pub sides : listed a' buffer' ≡ map exchanged (listed a buffer)
+  pub tiles : a' .tiles ≡ a .tiles
+  pub covered : a' .covered ≡ a .covered
+  pub score : a' .score ≡ a .score
