@@ -2,10 +2,9 @@
 -- buffer are the listing, so all that holds of the listing holds of them.
 -- Assumes nothing.
 use Prim.Native.Nat.{ℕ, _+_, _≤_, _^_}
-use native.Mathlib.Decide.{decLe}
 use native.Mathlib.Omega.{arith}
 use mathlib.Core.Path.{_≡_, refl, sym, _∙_, ap}
-use mathlib.Core.Bool.{true, false, not}
+use mathlib.Core.Bool.{false, not}
 use mathlib.Core.List.{List, [], _∷_, _++_, map}
 use borrow.Author.Tests.{eqb-false}
 use lib.Dec.{eqb, ltb}
@@ -18,7 +17,7 @@ use Rattle.tiling.specs.Each.{Each, Pairs}
 use Rattle.tiling.specs.Listing.{Entry, listing, tileWords, covered, score}
 use Rattle.tiling.specs.declared.Compared.{Compared}
 use Rattle.tiling.specs.Comparing.{sequences, minimums, plainRefusal, fastRefusal}
-use Rattle.tiling.specs.Answer.{compared, tileBuffer, Compares}
+use Rattle.tiling.specs.Answer.{compared, Compares}
 use Rattle.tiling.specs.Demand.{FreeRun, Stands, Apart, onFirst, onSecond, long, smallerCounts, exchanged, tilesIn, listed, Tiled, Exchanges}
 use Rattle.tiling.proofs.Demand.{listing-tiled, exchange, exchange-count, exchange-covered, exchange-score}
 
@@ -33,14 +32,14 @@ tiles-read es b = tiles-back es (drop (length (tileWords es)) b)
 
 -- ---- an accepted comparison
 module _ {r : ℕ} {first second : List ℕ} {minimum : ℕ} {ws b : List ℕ} {a : Compared} {ws' b' : List ℕ} (c : Compares r first second minimum ws b a ws' b') (accepted : a .refusal ≡ 0) where
-  number-zero : r ≡ 0
-  number-zero = sym (ap (λ x. x .refusal) (c .answer)) ∙ accepted
+  pub answers-number : r ≡ 0
+  answers-number = sym (ap (λ x. x .refusal) (c .answer)) ∙ accepted
 
   answer-is : a ≡ compared 0 (listing first second minimum) (length first + length second)
-  answer-is = rw number-zero at (c .answer)
+  answer-is = rw answers-number at (c .answer)
 
   buffer-is : b' ≡ onto (tileWords (listing first second minimum)) b
-  buffer-is = rw number-zero at (c .tiles)
+  buffer-is = rw answers-number at (c .tiles)
 
   pub answers-listed : listed a b' ≡ listing first second minimum
   answers-listed = rw (answer-is, buffer-is) (tiles-read (listing first second minimum) b)
@@ -56,7 +55,7 @@ module _ {r : ℕ} {first second : List ℕ} {minimum : ℕ} {ws b : List ℕ} {
   answers-score = rw answer-is refl
 
   pub answers-zero : ws' ≡ replicate (length ws) 0
-  answers-zero = rw number-zero at (c .workspace)
+  answers-zero = rw answers-number at (c .workspace)
 
   pub answers-tiled : 1 ≤ minimum → Tiled first second minimum (listed a b')
   answers-tiled one = rw answers-listed (listing-tiled first second minimum one)

@@ -8,16 +8,16 @@ use native.Mathlib.Decide.{decLt}
 use native.Mathlib.Omega.{arith}
 use mathlib.Core.Path.{_≡_, refl, sym, _∙_, ap}
 use mathlib.Core.Bool.{Bool, true, false}
-use mathlib.Core.List.{List, [], _∷_, _++_, map, map-map, map-append}
+use mathlib.Core.List.{List, [], _∷_, map, map-map, map-append}
 use borrow.Author.Tests.{le-leb, lt-leb}
 use lib.ListN.{length, drop, getD, length-map}
 use lib.Seq.{getD-drop}
 use Rattle.symbol.proofs.Word.{match-swap}
 use Rattle.tiling.specs.Each.{Each, none, also, Pairs}
-use Rattle.tiling.specs.Greedy.{after}
-use Rattle.tiling.specs.Tiling.{Tile, State, start, runAt, size, lay, tiling}
+use Rattle.tiling.specs.Greedy.{after, Begins}
+use Rattle.tiling.specs.Tiling.{Tile, start, size, lay, tiling}
 use Rattle.tiling.specs.Listing.{Entry, firstIsPattern, straight, crossed, listing, covered, score}
-use Rattle.tiling.specs.Demand.{Free, FreeRun, Stands, Apart, onFirst, onSecond, long, callsWith, smallerCounts, exchanged, Tiled, Begins}
+use Rattle.tiling.specs.Demand.{Free, FreeRun, Stands, Apart, onFirst, onSecond, long, smallerCounts, exchanged, Tiled}
 use Rattle.tiling.proofs.Run.{run-least}
 use Rattle.tiling.proofs.Each.{each-map, each-unmap, pairs-map}
 use Rattle.tiling.proofs.Tiling.{Lies, tiles-lie}
@@ -167,7 +167,7 @@ covered-first first second minimum one = listing-tiled first second minimum one 
 pub covered-second : (first second : List ℕ) (minimum : ℕ) → 1 ≤ minimum → covered (listing first second minimum) ≤ length second
 covered-second first second minimum one = listing-tiled first second minimum one .within-second
 
-covered-least : {minimum : ℕ} {tiles : List Entry} → Each (λ e. minimum ≤ e .len) tiles → length tiles * minimum ≤ covered tiles
+pub covered-least : {minimum : ℕ} {tiles : List Entry} → Each (λ e. minimum ≤ e .len) tiles → length tiles * minimum ≤ covered tiles
 unfolding covered
 covered-least none = omega arith
 covered-least {minimum = minimum} (also {xs = tiles} h r) = rw (suc-mul (length tiles) minimum) (omega (arith, covered-least r))

@@ -1,10 +1,10 @@
 -- What a tiling leaves, and what its tiles take. Runs only shrink, so the lengths never rise; a tile's words match, so they are no
 -- zeros and lie apart from what was marked before; and a tile takes the same calls from both sequences.
 -- Assumes nothing.
-use Prim.Native.Nat.{ℕ, suc, _+_, _-_, _≤_, _<_}
+use Prim.Native.Nat.{ℕ, _+_, _-_, _≤_, _<_}
 use native.Mathlib.Omega.{arith}
 use mathlib.Core.Path.{_≡_, refl, sym, _∙_}
-use mathlib.Core.Bool.{Bool, true, false}
+use mathlib.Core.Bool.{Bool, false}
 use mathlib.Core.List.{List, [], _∷_, _++_, map}
 use lib.ListN.{length, take, drop, getD, length-take, length-drop}
 use lib.Seq.{getD-drop, getD-take, ext-getD}
@@ -13,11 +13,11 @@ use Rattle.symbol.proofs.Word.{match-call, match-equal}
 use Rattle.tiling.specs.Each.{Each, Pairs, no-pair, before}
 use Rattle.tiling.specs.Tally.{tally}
 use Rattle.tiling.specs.Run.{mark}
-use Rattle.tiling.specs.Greedy.{after}
+use Rattle.tiling.specs.Greedy.{after, Begins}
 use Rattle.tiling.specs.Tiling.{Tile, State, runAt, best, size, lay, tiling}
 use Rattle.tiling.specs.Listing.{straight, covered}
-use Rattle.tiling.specs.Demand.{Covers, Apart, Begins}
-use Rattle.tiling.proofs.Run.{zero-left, zero-right}
+use Rattle.tiling.specs.Demand.{Apart}
+use Rattle.tiling.proofs.Run.{not-zero-left, not-zero-right}
 use Rattle.tiling.proofs.Each.{each-also}
 use Rattle.tiling.proofs.Tally.{tally-length, tally-mark, tally-all, tally-append}
 use Rattle.tiling.proofs.Greedy.{Greedy, done, more, only, complete, at-least, split, bounded, never-rise}
@@ -26,11 +26,11 @@ use Rattle.tiling.proofs.Marked.{worked-none, lay-shrinks}
 use Rattle.tiling.proofs.Covered.{marking, marked-apart, Left, all-left}
 use Rattle.tiling.proofs.Tiling.{Lies, best-lies, laid-lie, tiling-greedy, zero-no-call}
 
-abbrev pub start-pattern : Tile → ℕ
-start-pattern k = k .p
+abbrev pub onPattern : Tile → ℕ
+onPattern k = k .p
 
-abbrev pub start-text : Tile → ℕ
-start-text k = k .t
+abbrev pub onText : Tile → ℕ
+onText k = k .t
 
 -- ---- what is left
 -- Every run left is shorter than the minimum.
@@ -80,39 +80,32 @@ module _ (side : State → List ℕ) (at : Tile → ℕ) (marks : (s : State) (k
   side-left : (ks : List Tile) (s : State) (j : ℕ) → Left at size ks (side s) (side (after lay s ks)) j
   side-left ks s j = rw (after-side ks s) (all-left at size ks (side s) j)
 
-pub pattern-left : (ks : List Tile) (s : State) (j : ℕ) → Left start-pattern size ks (s .pattern) (after lay s ks .pattern) j
+pub pattern-left : (ks : List Tile) (s : State) (j : ℕ) → Left onPattern size ks (s .pattern) (after lay s ks .pattern) j
 unfolding lay
-pattern-left = side-left (λ s. s .pattern) start-pattern (λ s k. refl)
+pattern-left = side-left (λ s. s .pattern) onPattern (λ s k. refl)
 
-pub text-left : (ks : List Tile) (s : State) (j : ℕ) → Left start-text size ks (s .text) (after lay s ks .text) j
+pub text-left : (ks : List Tile) (s : State) (j : ℕ) → Left onText size ks (s .text) (after lay s ks .text) j
 unfolding lay
-text-left = side-left (λ s. s .text) start-text (λ s k. refl)
+text-left = side-left (λ s. s .text) onText (λ s k. refl)
 
 -- ---- no two tiles overlap
-clash : true ≡ false → ⊥
-clash e = let z : _≡_ {A = ℕ} 0 1 = cc in omega arith
-
 -- A tile that lies in what is left after another.
-pattern-apart : (s : State) (k l : Tile) → Lies (lay s k) l → Apart start-pattern size k l
+pattern-apart : (s : State) (k l : Tile) → Lies (lay s k) l → Apart onPattern size k l
 unfolding lay
-pattern-apart s k l r =
-    marked-apart (k .p) (k .len) (l .p) (l .len) (s .pattern)
-    (λ x h z. clash (sym (r .matching x h) ∙ rw z (zero-left (getD (mark (k .t) (k .len) (s .text)) (l .t + x) 0))))
+pattern-apart s k l r = marked-apart (k .p) (k .len) (l .p) (l .len) (s .pattern) (λ x h. not-zero-left _ _ (r .matching x h))
 
-text-apart : (s : State) (k l : Tile) → Lies (lay s k) l → Apart start-text size k l
+text-apart : (s : State) (k l : Tile) → Lies (lay s k) l → Apart onText size k l
 unfolding lay
-text-apart s k l r =
-    marked-apart (k .t) (k .len) (l .t) (l .len) (s .text)
-    (λ x h z. clash (sym (r .matching x h) ∙ rw z (zero-right (getD (mark (k .p) (k .len) (s .pattern)) (l .p + x) 0))))
+text-apart s k l r = marked-apart (k .t) (k .len) (l .t) (l .len) (s .text) (λ x h. not-zero-right _ _ (r .matching x h))
 
 later : {R : Tile → Tile → Type 0} → ((s : State) (k l : Tile) → Lies (lay s k) l → R k l) → {minimum : ℕ} {s : State} {ks : List Tile} → 1 ≤ minimum → Greedy best size lay minimum s ks → Pairs R ks
 later h one (done k) = no-pair
 later h one (more {s = s} k g) = before (each-also (h s (best s)) (laid-lie (lay s (best s)) one (worked-none (lay s (best s))) g)) (later h one g)
 
-pub tiling-apart-pattern : (minimum : ℕ) → 1 ≤ minimum → (s : State) → Pairs (Apart start-pattern size) (tiling minimum s)
+pub tiling-apart-pattern : (minimum : ℕ) → 1 ≤ minimum → (s : State) → Pairs (Apart onPattern size) (tiling minimum s)
 tiling-apart-pattern minimum one s = later pattern-apart one (tiling-greedy minimum one s)
 
-pub tiling-apart-text : (minimum : ℕ) → 1 ≤ minimum → (s : State) → Pairs (Apart start-text size) (tiling minimum s)
+pub tiling-apart-text : (minimum : ℕ) → 1 ≤ minimum → (s : State) → Pairs (Apart onText size) (tiling minimum s)
 tiling-apart-text minimum one s = later text-apart one (tiling-greedy minimum one s)
 
 -- ---- what the tiles take

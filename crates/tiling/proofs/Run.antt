@@ -10,7 +10,7 @@ use mathlib.Core.Bool.{Bool, true, false}
 use mathlib.Core.List.{List, [], _∷_}
 use lib.ListN.{length, getD}
 use Rattle.symbol.specs.Word.{matches}
-use Rattle.symbol.proofs.Word.{call-below, no-match-left, no-match-right}
+use Rattle.symbol.proofs.Word.{call-below, no-match-left, no-match-right, match-swap}
 use Rattle.tiling.specs.Run.{run, mark}
 
 -- ---- the word 0
@@ -19,6 +19,13 @@ zero-left w = no-match-left 0 w (call-below 0 (omega arith))
 
 pub zero-right : (w : ℕ) → matches w 0 ≡ false
 zero-right w = no-match-right w 0 (call-below 0 (omega arith))
+
+-- So words that match are no zeros.
+pub not-zero-left : (a b : ℕ) → matches a b ≡ true → a ≡ 0 → ⊥
+not-zero-left a b m z = let f : true ≡ false = sym m ∙ rw z (zero-left b) in let e : _≡_ {A = ℕ} 0 1 = cc in omega arith
+
+pub not-zero-right : (a b : ℕ) → matches a b ≡ true → b ≡ 0 → ⊥
+not-zero-right a b m = not-zero-left b a (match-swap a b m)
 
 -- ---- the run of two lists
 pub run-nil : (ps : List ℕ) → run ps [] ≡ 0

@@ -2,7 +2,7 @@
 use Prim.Native.Nat.{ℕ, zero, suc, _+_, _≤_, _<_, _^_, min}
 use mathlib.Core.Path.{_≡_}
 use mathlib.Core.Bool.{Bool, true, _&&_}
-use mathlib.Core.List.{List, [], _∷_, _++_, map}
+use mathlib.Core.List.{List, [], _∷_, map}
 use lib.Dec.{eqb}
 use lib.ListN.{length, getD, drop}
 use Rattle.symbol.specs.Word.{isCall, code, matches}
@@ -75,12 +75,6 @@ pub record Tiled (first second : List ℕ) (minimum : ℕ) (tiles : List Entry) 
   -- Covered is at most each length.
   pub within-first : covered tiles ≤ length first
   pub within-second : covered tiles ≤ length second
-
--- "the tiles at a greater minimum are exactly the first tiles at a smaller one, down to the last tile long enough."
-pub record Begins {K : Type 0} (len : K → ℕ) (longer : ℕ) (tiles all : List K) : Type 0 where
-  pub rest : List K
-  pub whole : all ≡ tiles ++ rest
-  pub short : Each (λ k. len k < longer) rest
 
 -- "Exchanging sides swaps the two starts of each tile and leaves the rest of it and its place in the list."
 abbrev pub exchanged : Entry → Entry
