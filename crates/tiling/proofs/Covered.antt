@@ -2,7 +2,7 @@
 -- it is the word that stood there. So a stretch of words that are not 0 lies apart from a stretch that was marked.
 -- Assumes nothing.
 use Prim.Native.Nat.{ℕ, _+_, _-_, _≤_, _<_}
-use native.Mathlib.Decide.{decLe, decLt}
+use native.Mathlib.Decide.{decLe}
 use native.Mathlib.Omega.{arith}
 use mathlib.Core.Path.{_≡_, refl, _∙_}
 use mathlib.Core.List.{List, [], _∷_}
@@ -11,19 +11,7 @@ use Rattle.tiling.specs.Each.{none, also}
 use Rattle.tiling.specs.Run.{mark}
 use Rattle.tiling.specs.Greedy.{after}
 use Rattle.tiling.specs.Demand.{Covers, Free}
-use Rattle.tiling.proofs.Run.{mark-before, mark-inside, mark-after}
-
--- One stretch: a word outside it stays.
-pub mark-outside : (i n : ℕ) (xs : List ℕ) (j : ℕ) → (Covers i n j → ⊥) → getD (mark i n xs) j 0 ≡ getD xs j 0
-mark-outside i n xs j d = before (decLt j i)
-  where
-    within : Dec (j < i + n) → (j < i → ⊥) → getD (mark i n xs) j 0 ≡ getD xs j 0
-    within (yes k) l = absurd (d record { least = omega (arith, l); most = k })
-    within (no k) l = mark-after i n xs j (omega (arith, k))
-
-    before : Dec (j < i) → getD (mark i n xs) j 0 ≡ getD xs j 0
-    before (yes k) = mark-before i n xs j k
-    before (no k) = within (decLt j (i + n)) k
+use Rattle.tiling.proofs.Run.{mark-inside, mark-outside}
 
 -- A stretch without zeros in a list in which another was marked.
 pub marked-apart : (i n k m : ℕ) (xs : List ℕ) → ((x : ℕ) → x < m → getD (mark i n xs) (k + x) 0 ≡ 0 → ⊥) → (j : ℕ) → Covers i n j → Covers k m j → ⊥

@@ -1,6 +1,7 @@
 -- The greedy choice as a relation between a state and the whole list laid from it. The relation has just one list for a state, and
 -- the function's is that list wherever laying a best of length 1 or more makes some measure of the state fall, so the fuel that
--- the function is given says nothing.
+-- the function is given says nothing. What is left when all are laid, what a greater minimum lays first, and that lengths do not rise
+-- follow along the relation.
 -- Assumes nothing.
 use Prim.Native.Nat.{ℕ, zero, suc, _≤_, _<_}
 use native.Mathlib.Decide.{decLe}

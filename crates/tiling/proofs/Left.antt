@@ -1,17 +1,13 @@
 -- What a tiling leaves, and what its tiles take. Runs only shrink, so the lengths never rise; a tile's words match, so they are no
 -- zeros and lie apart from what was marked before; and a tile takes the same calls from both sequences.
 -- Assumes nothing.
-use Prim.Native.Nat.{ℕ, _+_, _-_, _≤_, _<_}
+use Prim.Native.Nat.{ℕ, _-_, _≤_, _<_}
 use native.Mathlib.Omega.{arith}
-use mathlib.Core.Path.{_≡_, refl, sym, _∙_}
-use mathlib.Core.Bool.{Bool, false}
+use mathlib.Core.Path.{_≡_, refl}
 use mathlib.Core.List.{List, [], _∷_, _++_, map}
-use lib.ListN.{length, take, drop, getD, length-take, length-drop}
-use lib.Seq.{getD-drop, getD-take, ext-getD}
+use lib.ListN.{length}
 use Rattle.symbol.specs.Word.{isCall}
-use Rattle.symbol.proofs.Word.{match-call, match-equal}
 use Rattle.tiling.specs.Each.{Each, Pairs, no-pair, before}
-use Rattle.tiling.specs.Tally.{tally}
 use Rattle.tiling.specs.Run.{mark}
 use Rattle.tiling.specs.Greedy.{after, Begins}
 use Rattle.tiling.specs.Tiling.{Tile, State, runAt, best, size, lay, tiling}
@@ -19,12 +15,12 @@ use Rattle.tiling.specs.Listing.{straight, covered}
 use Rattle.tiling.specs.Demand.{Apart}
 use Rattle.tiling.proofs.Run.{not-zero-left, not-zero-right}
 use Rattle.tiling.proofs.Each.{each-also}
-use Rattle.tiling.proofs.Tally.{tally-length, tally-mark, tally-all, tally-append}
+use Rattle.tiling.proofs.Tally.{tally-length}
 use Rattle.tiling.proofs.Greedy.{Greedy, done, more, only, complete, at-least, split, bounded, never-rise}
 use Rattle.tiling.proofs.Best.{best-is}
 use Rattle.tiling.proofs.Marked.{worked-none, lay-shrinks}
 use Rattle.tiling.proofs.Covered.{marking, marked-apart, Left, all-left}
-use Rattle.tiling.proofs.Tiling.{Lies, best-lies, laid-lie, tiling-greedy, zero-no-call}
+use Rattle.tiling.proofs.Tiling.{Lies, best-lies, Takes, takes-none, takes-more, takes-tile, zero-no-call, tiling-greedy, laid-lie}
 
 abbrev pub onPattern : Tile → ℕ
 onPattern k = k .p
@@ -109,51 +105,6 @@ pub tiling-apart-text : (minimum : ℕ) → 1 ≤ minimum → (s : State) → Pa
 tiling-apart-text minimum one s = later text-apart one (tiling-greedy minimum one s)
 
 -- ---- what the tiles take
--- From s to s' these words were taken from each side; n of them are calls.
-pub record Takes (s s' : State) (n : ℕ) : Type 0 where
-  pub words : List ℕ
-  pub whole : tally isCall words ≡ n
-  pub from-pattern : (test : ℕ → Bool) → test 0 ≡ false → tally test (s .pattern) ≡ tally test (s' .pattern) + tally test words
-  pub from-text : (test : ℕ → Bool) → test 0 ≡ false → tally test (s .text) ≡ tally test (s' .text) + tally test words
-
-takes-none : (s : State) → Takes s s 0
-unfolding tally
-takes-none s = record { words = []; whole = refl; from-pattern = λ test z. omega arith; from-text = λ test z. omega arith }
-
-takes-more : (s₀ s s' : State) (m n : ℕ) → Takes s₀ s m → Takes s s' n → Takes s₀ s' (m + n)
-takes-more s₀ s s' m n a b =
-    record {
-      words = a .words ++ b .words;
-      whole = omega (arith, tally-append isCall (a .words) (b .words), a .whole, b .whole);
-      from-pattern = λ test z. omega (arith, tally-append test (a .words) (b .words), a .from-pattern test z, b .from-pattern test z);
-      from-text = λ test z. omega (arith, tally-append test (a .words) (b .words), a .from-text test z, b .from-text test z);
-    }
-
--- The words of a tile are the same on both sides, and calls.
-same-words : (s : State) (k : Tile) → Lies s k → take (k .len) (drop (k .t) (s .text)) ≡ take (k .len) (drop (k .p) (s .pattern))
-same-words s k l =
-    let xs = drop (k .t) (s .text) in
-    let ys = drop (k .p) (s .pattern) in
-    let a : length (take (k .len) xs) ≡ k .len = omega (arith, length-take (k .len) xs, length-drop (k .t) (s .text), l .in-text) in
-    let b : length (take (k .len) ys) ≡ k .len = omega (arith, length-take (k .len) ys, length-drop (k .p) (s .pattern), l .in-pattern) in
-    ext-getD 0 (take (k .len) xs) (take (k .len) ys) (a ∙ sym b)
-    (λ i h.
-    let m : i < k .len = omega (arith, a, h) in
-    rw (getD-take (k .len) xs i 0 m, getD-take (k .len) ys i 0 m, getD-drop (k .t) (s .text) i 0, getD-drop (k .p) (s .pattern) i 0)
-    (sym (match-equal _ _ (l .matching i m))))
-
-takes-tile : (s : State) (k : Tile) → Lies s k → Takes s (lay s k) (k .len)
-unfolding lay
-takes-tile s k l =
-    record {
-      words = take (k .len) (drop (k .p) (s .pattern));
-      whole =
-          tally-all isCall (k .len) (drop (k .p) (s .pattern)) (omega (arith, length-drop (k .p) (s .pattern), l .in-pattern))
-          (λ i m. rw (getD-drop (k .p) (s .pattern) i 0) (match-call _ _ (l .matching i m)));
-      from-pattern = λ test z. tally-mark test z (k .p) (k .len) (s .pattern);
-      from-text = λ test z. rw (← same-words s k l) (tally-mark test z (k .t) (k .len) (s .text));
-    }
-
 laid-take : {minimum : ℕ} {s : State} {ks : List Tile} → 1 ≤ minimum → Greedy best size lay minimum s ks → Takes s (after lay s ks) (covered (map straight ks))
 unfolding after covered
 laid-take one (done {s = s} h) = takes-none s
