@@ -5,7 +5,7 @@ use Prim.Native.Nat.{ℕ, zero, suc, _+_, _≤_, _<_, _^_, min}
 use native.Mathlib.Decide.{decLe}
 use native.Mathlib.Omega.{arith}
 use mathlib.Core.Path.{_≡_, refl, sym, _∙_}
-use mathlib.Core.Bool.{Bool, true, false, _&&_, and-false}
+use mathlib.Core.Bool.{Bool, true, false, _&&_, and-true, and-false}
 use mathlib.Core.List.{List, map}
 use borrow.Author.Tests.{eq-eqb, eqb-true, lt-ltb, le-ltb, ne-eqb}
 use lib.Dec.{eqb, ltb}
@@ -48,23 +48,23 @@ calls-below zero ws = sym (tally-none (λ w. rw (le-ltb (code w) 0 (omega arith)
 calls-below (suc n) ws = omega (arith, calls-below n ws, tally-add (isCallWith n) (below n) (below (suc n)) (λ w. one-more n w (isCall w)) ws)
 
 all-calls : (n : ℕ) → ((w : ℕ) → code w < n) → (ws : List ℕ) → smallerCounts n ws ws ≡ tally isCall ws
-all-calls n h ws = calls-below n ws ∙ tally-same (λ w. rw (lt-ltb (code w) n (h w)) (keep (isCall w))) ws
-  where
-    keep : (b : Bool) → (b && true) ≡ b
-    keep true = refl
-    keep false = refl
+all-calls n h ws = calls-below n ws ∙ tally-same (λ w. rw (lt-ltb (code w) n (h w)) (and-true (isCall w))) ws
 
 -- ---- no code is left on both sides where no run is left
+same-code : (c a b : ℕ) → isCallWith c a ≡ true → isCallWith c b ≡ true → matches a b ≡ true
+unfolding matches
+same-code c a b x y =
+    let e : code a ≡ code b = eqb-true _ _ (and-right (isCall a) _ x) ∙ sym (eqb-true _ _ (and-right (isCall b) _ y)) in
+    and-both (and-both (and-left (isCall a) _ x) (and-left (isCall b) _ y)) (eq-eqb (code a) (code b) e)
+
 module _ (s : State) (no-run : (p t : ℕ) → runAt s p t < 1) (c : ℕ) where
   clash : Passes (isCallWith c) (s .pattern) → Passes (isCallWith c) (s .text) → ⊥
-  unfolding matches
   clash x y =
       let i = x .position in
       let j = y .position in
       let a = getD (s .pattern) i 0 in
       let b = getD (s .text) j 0 in
-      let e : code a ≡ code b = eqb-true _ _ (and-right (isCall a) _ (x .passes)) ∙ sym (eqb-true _ _ (and-right (isCall b) _ (y .passes))) in
-      let m : matches a b ≡ true = and-both (and-both (and-left (isCall a) _ (x .passes)) (and-left (isCall b) _ (y .passes))) (eq-eqb (code a) (code b) e) in
+      let m : matches a b ≡ true = same-code c a b (x .passes) (y .passes) in
       let l = run-least (drop i (s .pattern)) (drop j (s .text)) 1 (λ z h.
       let f : i + z ≡ i = omega arith in
       let g : j + z ≡ j = omega arith in

@@ -1,4 +1,4 @@
--- What demand 3 says of the tiles listed for two sequences.
+-- What demand 3 says of the tiles listed for two sequences, and what else holds of them.
 use Prim.Native.Nat.{ℕ, zero, suc, _+_, _≤_, _<_, _^_, min}
 use mathlib.Core.Path.{_≡_}
 use mathlib.Core.Bool.{Bool, true, _&&_}
@@ -63,7 +63,7 @@ smallerCounts (suc n) first second = min (callsWith n first) (callsWith n second
 pub record Tiled (first second : List ℕ) (minimum : ℕ) (tiles : List Entry) : Type 0 where
   -- "After either engine no matching run of the minimum length is free on both strands."
   pub no-free-run : (i j : ℕ) → FreeRun first second tiles minimum i j → ⊥
-  -- "At minimum 1, covered = the sum, over all codes, of the smaller of its numbers of calls on the two strands."
+  -- "At minimum 1, covered = the sum, over all codes, of the smaller of its numbers of calls on the two strands." A code has 16 bits.
   pub at-one : minimum ≡ 1 → covered tiles ≡ smallerCounts (2 ^ 16) first second
   -- Each tile lies in both sequences, its words match, and it has at least the minimum.
   pub stands : Each (Stands first second) tiles
