@@ -10,14 +10,14 @@ use mathlib.Core.Path.{_≡_, refl, sym, _∙_, ap}
 use mathlib.Core.Bool.{Bool, true, false}
 use mathlib.Core.List.{List, [], _∷_, map, map-map, map-append}
 use borrow.Author.Tests.{le-leb, lt-leb}
-use lib.ListN.{length, drop, getD, length-map}
+use lib.ListN.{length, drop, length-map}
 use lib.Seq.{getD-drop}
 use Rattle.symbol.proofs.Word.{match-swap}
 use Rattle.tiling.specs.Each.{Each, none, also, Pairs}
 use Rattle.tiling.specs.Greedy.{after, Begins}
 use Rattle.tiling.specs.Tiling.{Tile, start, size, lay, tiling}
 use Rattle.tiling.specs.Listing.{Entry, firstIsPattern, straight, crossed, listing, covered, score}
-use Rattle.tiling.specs.Demand.{Free, FreeRun, Stands, Apart, onFirst, onSecond, long, smallerCounts, exchanged, Tiled}
+use Rattle.tiling.specs.Demand.{FreeRun, Stands, Apart, onFirst, onSecond, long, smallerCounts, exchanged, Tiled}
 use Rattle.tiling.proofs.Run.{run-least}
 use Rattle.tiling.proofs.Each.{each-map, each-unmap, pairs-map}
 use Rattle.tiling.proofs.Tiling.{Lies, tiles-lie}
