@@ -1,14 +1,16 @@
 -- The greedy choice as a relation between a state and the whole list laid from it. The relation has just one list for a state, and
 -- the function's is that list wherever laying a best of length 1 or more makes some measure of the state fall, so the fuel that
--- the function is given says nothing.
+-- the function is given says nothing. What is left when all are laid, what a greater minimum lays first, and that lengths do not rise
+-- follow along the relation.
 -- Assumes nothing.
 use Prim.Native.Nat.{ℕ, zero, suc, _≤_, _<_}
 use native.Mathlib.Decide.{decLe}
 use native.Mathlib.Omega.{arith}
 use mathlib.Core.Path.{_≡_, refl, ap}
-use mathlib.Core.List.{List, [], _∷_}
+use mathlib.Core.List.{List, [], _∷_, _++_}
 use borrow.Author.Tests.{le-leb, lt-leb}
-use Rattle.tiling.specs.Greedy.{greedy}
+use Rattle.tiling.specs.Each.{Each, none, also, Pairs, no-pair, before}
+use Rattle.tiling.specs.Greedy.{greedy, after}
 
 module _ {S K : Type 0} (best : S → K) (size : K → ℕ) (lay : S → K → S) where
   -- Nothing long enough is left, or the best is laid and then the rest.
@@ -23,6 +25,32 @@ module _ {S K : Type 0} {best : S → K} {size : K → ℕ} {lay : S → K → S
   only (done h) (more k g) = absurd (omega arith)
   only (more h g) (done k) = absurd (omega arith)
   only {s = s} (more h g) (more k j) = ap (λ xs. best s ∷ xs) (only g j)
+
+  -- When all are laid, nothing long enough is left; and all that were laid are long enough.
+  pub complete : {minimum : ℕ} {s : S} {ks : List K} → Greedy best size lay minimum s ks → size (best (after lay s ks)) < minimum
+  unfolding after
+  complete (done h) = h
+  complete (more h g) = complete g
+
+  pub at-least : {minimum : ℕ} {s : S} {ks : List K} → Greedy best size lay minimum s ks → Each (λ k. minimum ≤ size k) ks
+  at-least (done h) = none
+  at-least (more h g) = also h (at-least g)
+
+  -- Those of at least a greater minimum come first, and then what is laid at the minimum from there.
+  pub split : {minimum longer : ℕ} {s : S} {ks ls : List K} → minimum ≤ longer → Greedy best size lay longer s ks → Greedy best size lay minimum (after lay s ks) ls → Greedy best size lay minimum s (ks ++ ls)
+  unfolding after
+  split le (done h) j = j
+  split {minimum = minimum} le (more {s = s} h g) j = let m : minimum ≤ size (best s) = omega arith in more m (split le g j)
+
+  -- Where laying the best never makes a longer best, no later one is longer.
+  module _ (shrinks : (s : S) → size (best (lay s (best s))) ≤ size (best s)) where
+    pub bounded : {minimum n : ℕ} {s : S} {ks : List K} → size (best s) ≤ n → Greedy best size lay minimum s ks → Each (λ k. size k ≤ n) ks
+    bounded h (done k) = none
+    bounded h (more {s = s} k g) = also h (bounded (omega (arith, shrinks s)) g)
+
+    pub never-rise : {minimum : ℕ} {s : S} {ks : List K} → Greedy best size lay minimum s ks → Pairs (λ k l. size l ≤ size k) ks
+    never-rise (done h) = no-pair
+    never-rise (more {s = s} h g) = before (bounded (shrinks s) g) (never-rise g)
 
 module _ {S K : Type 0} (best : S → K) (size : K → ℕ) (lay : S → K → S) where
   greedy-done : (fuel minimum : ℕ) (s : S) → size (best s) < minimum → greedy best size lay fuel minimum s ≡ []

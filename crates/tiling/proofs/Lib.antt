@@ -1,9 +1,14 @@
 pub mod Known
+pub mod Each
 pub mod Run
 pub mod Tally
 pub mod Peak
 pub mod Greedy
 pub mod Best
 pub mod Marked
+pub mod Covered
 pub mod Tiling
-pub mod Listing
+pub mod Left
+pub mod Codes
+pub mod Demand
+pub mod Answers

@@ -2,16 +2,15 @@
 -- before: runs only shrink.
 -- Assumes nothing.
 use Prim.Native.Nat.{ℕ, _+_, _≤_}
-use native.Mathlib.Omega.{arith}
-use mathlib.Core.Path.{_≡_, refl, sym, _∙_}
-use mathlib.Core.Bool.{true, false}
+use mathlib.Core.Path.{_≡_, refl, _∙_}
+use mathlib.Core.Bool.{true}
 use mathlib.Core.List.{List}
 use lib.ListN.{length, getD, drop}
 use lib.Seq.{getD-drop}
 use Rattle.symbol.specs.Word.{matches}
 use Rattle.tiling.specs.Run.{mark}
 use Rattle.tiling.specs.Tiling.{Tile, State, runAt, lay}
-use Rattle.tiling.proofs.Run.{zero-left, zero-right, run-match, run-least, length-mark, mark-kept}
+use Rattle.tiling.proofs.Run.{not-zero-left, not-zero-right, run-match, run-least, length-mark, mark-kept}
 
 -- ys is xs with some words marked.
 pub record Marked (xs ys : List ℕ) : Type 0 where
@@ -45,15 +44,7 @@ worked-lay s₀ s k r =
 
 -- The words of a pair that matches are no zeros, so they stood there before any marking.
 pub match-kept : (xs₀ xs ys₀ ys : List ℕ) → Marked xs₀ xs → Marked ys₀ ys → (i j : ℕ) → matches (getD xs i 0) (getD ys j 0) ≡ true → matches (getD xs₀ i 0) (getD ys₀ j 0) ≡ true
-match-kept xs₀ xs ys₀ ys a b i j m =
-    rw (
-      ← a .kept i (λ z. clash (sym (rw z at m) ∙ zero-left (getD ys j 0))),
-      ← b .kept j (λ z. clash (sym (rw z at m) ∙ zero-right (getD xs i 0))),
-    )
-    m
-  where
-    clash : true ≡ false → ⊥
-    clash e = let z : _≡_ {A = ℕ} 0 1 = cc in omega arith
+match-kept xs₀ xs ys₀ ys a b i j m = rw (← a .kept i (not-zero-left _ _ m), ← b .kept j (not-zero-right _ _ m)) m
 
 pub runs-shrink : (s₀ s : State) → Worked s₀ s → (p t : ℕ) → runAt s p t ≤ runAt s₀ p t
 runs-shrink s₀ s w p t =

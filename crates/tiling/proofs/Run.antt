@@ -10,8 +10,9 @@ use mathlib.Core.Bool.{Bool, true, false}
 use mathlib.Core.List.{List, [], _∷_}
 use lib.ListN.{length, getD}
 use Rattle.symbol.specs.Word.{matches}
-use Rattle.symbol.proofs.Word.{call-below, no-match-left, no-match-right}
+use Rattle.symbol.proofs.Word.{call-below, no-match-left, no-match-right, match-swap}
 use Rattle.tiling.specs.Run.{run, mark}
+use Rattle.tiling.specs.Demand.{Covers}
 
 -- ---- the word 0
 pub zero-left : (w : ℕ) → matches 0 w ≡ false
@@ -19,6 +20,13 @@ zero-left w = no-match-left 0 w (call-below 0 (omega arith))
 
 pub zero-right : (w : ℕ) → matches w 0 ≡ false
 zero-right w = no-match-right w 0 (call-below 0 (omega arith))
+
+-- So words that match are no zeros.
+pub not-zero-left : (a b : ℕ) → matches a b ≡ true → a ≡ 0 → ⊥
+not-zero-left a b m z = let f : true ≡ false = sym m ∙ rw z (zero-left b) in let e : _≡_ {A = ℕ} 0 1 = cc in omega arith
+
+pub not-zero-right : (a b : ℕ) → matches a b ≡ true → b ≡ 0 → ⊥
+not-zero-right a b m = not-zero-left b a (match-swap a b m)
 
 -- ---- the run of two lists
 pub run-nil : (ps : List ℕ) → run ps [] ≡ 0
@@ -87,7 +95,7 @@ length-mark (suc i) n (x ∷ xs) = ap suc (length-mark i n xs)
 length-mark zero zero (x ∷ xs) = refl
 length-mark zero (suc n) (x ∷ xs) = ap suc (length-mark zero n xs)
 
--- A word before the stretch, in it, and after it.
+-- A word before the stretch, in it, after it, and outside it.
 pub mark-before : (i n : ℕ) (xs : List ℕ) (j : ℕ) → j < i → getD (mark i n xs) j 0 ≡ getD xs j 0
 unfolding mark
 mark-before i n [] j h = refl
@@ -113,14 +121,17 @@ mark-after zero zero (x ∷ xs) j h = refl
 mark-after zero (suc n) (x ∷ xs) zero h = let z : suc n ≤ 0 = omega arith in absurd (not-suc-le-zero z)
 mark-after zero (suc n) (x ∷ xs) (suc j) h = mark-after zero n xs j (omega arith)
 
--- So a word after marking that is not 0 is the word that stood there.
-pub mark-kept : (i n : ℕ) (xs : List ℕ) (j : ℕ) → (getD (mark i n xs) j 0 ≡ 0 → ⊥) → getD (mark i n xs) j 0 ≡ getD xs j 0
-mark-kept i n xs j h = before (decLt j i)
+pub mark-outside : (i n : ℕ) (xs : List ℕ) (j : ℕ) → (Covers i n j → ⊥) → getD (mark i n xs) j 0 ≡ getD xs j 0
+mark-outside i n xs j d = before (decLt j i)
   where
-    after : Dec (j < i + n) → i ≤ j → getD (mark i n xs) j 0 ≡ getD xs j 0
-    after (yes k) l = absurd (h (mark-inside i n xs j l k))
+    after : Dec (j < i + n) → (j < i → ⊥) → getD (mark i n xs) j 0 ≡ getD xs j 0
+    after (yes k) l = absurd (d record { least = omega (arith, l); most = k })
     after (no k) l = mark-after i n xs j (omega (arith, k))
 
     before : Dec (j < i) → getD (mark i n xs) j 0 ≡ getD xs j 0
     before (yes k) = mark-before i n xs j k
-    before (no k) = after (decLt j (i + n)) (omega (arith, k))
+    before (no k) = after (decLt j (i + n)) k
+
+-- So a word after marking that is not 0 is the word that stood there.
+pub mark-kept : (i n : ℕ) (xs : List ℕ) (j : ℕ) → (getD (mark i n xs) j 0 ≡ 0 → ⊥) → getD (mark i n xs) j 0 ≡ getD xs j 0
+mark-kept i n xs j h = mark-outside i n xs j (λ c. h (mark-inside i n xs j (c .least) (c .most)))

@@ -6,30 +6,23 @@ use native.Mathlib.Nat.{not-suc-le-zero, le-of-suc-le-suc}
 use native.Mathlib.Omega.{arith}
 use mathlib.Core.Path.{_≡_, refl}
 use mathlib.Core.Bool.{Bool, true, false}
-use mathlib.Core.List.{List, [], _∷_}
+use mathlib.Core.List.{List, [], _∷_, _++_}
 use lib.ListN.{length, take, drop, getD}
 use lib.Seq.{take-nil, drop-nil}
+use Rattle.tiling.specs.Tally.{one, tally}
 use Rattle.tiling.specs.Run.{mark}
-
-abbrev pub one : Bool → ℕ
-one true = 1
-one false = 0
 
 one-small : (b : Bool) → one b ≤ 1
 one-small true = omega arith
 one-small false = omega arith
 
 module _ (test : ℕ → Bool) where
-  unfoldable pub tally : List ℕ → ℕ
-  tally [] = 0
-  tally (x ∷ xs) = one (test x) + tally xs
-
-  pub tally-length : (xs : List ℕ) → tally xs ≤ length xs
+  pub tally-length : (xs : List ℕ) → tally test xs ≤ length xs
   unfolding tally
   tally-length [] = omega arith
   tally-length (x ∷ xs) = omega (arith, tally-length xs, one-small (test x))
 
-  pub tally-mark : test 0 ≡ false → (i n : ℕ) (xs : List ℕ) → tally xs ≡ tally (mark i n xs) + tally (take n (drop i xs))
+  pub tally-mark : test 0 ≡ false → (i n : ℕ) (xs : List ℕ) → tally test xs ≡ tally test (mark i n xs) + tally test (take n (drop i xs))
   unfolding tally mark
   tally-mark z i n [] = rw (drop-nil {A = ℕ} i, take-nil {A = ℕ} n) (omega arith)
   tally-mark z (suc i) n (x ∷ xs) = omega (arith, tally-mark z i n xs)
@@ -37,7 +30,7 @@ module _ (test : ℕ → Bool) where
   tally-mark z zero (suc n) (x ∷ xs) = rw z (omega (arith, tally-mark z zero n xs))
 
   -- A stretch within the list in which every word passes counts whole.
-  pub tally-all : (n : ℕ) (xs : List ℕ) → n ≤ length xs → ((i : ℕ) → i < n → test (getD xs i 0) ≡ true) → tally (take n xs) ≡ n
+  pub tally-all : (n : ℕ) (xs : List ℕ) → n ≤ length xs → ((i : ℕ) → i < n → test (getD xs i 0) ≡ true) → tally test (take n xs) ≡ n
   unfolding tally
   tally-all zero [] h f = refl
   tally-all zero (x ∷ xs) h f = refl
@@ -45,3 +38,39 @@ module _ (test : ℕ → Bool) where
   tally-all (suc n) (x ∷ xs) h f =
       let r = tally-all n xs (le-of-suc-le-suc h) (λ i k. f (suc i) (omega arith)) in
       rw (f 0 (omega arith)) (omega (arith, r))
+
+  pub tally-append : (xs ys : List ℕ) → tally test (xs ++ ys) ≡ tally test xs + tally test ys
+  unfolding tally
+  tally-append [] ys = omega arith
+  tally-append (x ∷ xs) ys = omega (arith, tally-append xs ys)
+
+  -- Where the count is not 0, some word passes.
+  pub record Passes (xs : List ℕ) : Type 0 where
+    pub position : ℕ
+    pub passes : test (getD xs position 0) ≡ true
+
+  pub tally-some : (xs : List ℕ) → 1 ≤ tally test xs → Passes xs
+  unfolding tally
+  tally-some [] h = absurd (not-suc-le-zero h)
+  tally-some (x ∷ xs) h = go (tally-some xs) (test x) refl
+    where
+      go : (1 ≤ tally test xs → Passes xs) → (b : Bool) → test x ≡ b → Passes (x ∷ xs)
+      go f true e = record { position = 0; passes = e }
+      go f false e = let k : 1 ≤ 0 + tally test xs = rw e at h in let r = f (omega arith) in record { position = suc (r .position); passes = r .passes }
+
+-- ---- several tests
+pub tally-none : {f : ℕ → Bool} → ((w : ℕ) → f w ≡ false) → (xs : List ℕ) → tally f xs ≡ 0
+unfolding tally
+tally-none h [] = refl
+tally-none h (x ∷ xs) = rw (h x) (omega (arith, tally-none h xs))
+
+pub tally-same : {f g : ℕ → Bool} → ((w : ℕ) → f w ≡ g w) → (xs : List ℕ) → tally f xs ≡ tally g xs
+unfolding tally
+tally-same h [] = refl
+tally-same h (x ∷ xs) = rw (h x, tally-same h xs) refl
+
+-- Where each word that passes h passes just one of f and g.
+pub tally-add : (f g h : ℕ → Bool) → ((w : ℕ) → one (f w) + one (g w) ≡ one (h w)) → (xs : List ℕ) → tally f xs + tally g xs ≡ tally h xs
+unfolding tally
+tally-add f g h e [] = refl
+tally-add f g h e (x ∷ xs) = omega (arith, e x, tally-add f g h e xs)

@@ -1,22 +1,24 @@
--- The tiling's equation without fuel, and where its tiles lie. Laying a best of length 1 or more takes calls away from the pattern, so
+-- The tiling's equation without fuel, and where its tiles lie. A tile takes its words, all of them calls, from both sequences, so that
 -- the tiling ends by itself. A word that is not 0 after some marking is the word that was there at the start, so the words of a
 -- tile match in the sequences as handed in.
 -- Assumes nothing.
 use Prim.Native.Nat.{ℕ, _+_, _≤_, _<_}
 use native.Mathlib.Decide.{decLe}
 use native.Mathlib.Omega.{arith}
-use mathlib.Core.Path.{_≡_}
-use mathlib.Core.Bool.{true, false}
-use mathlib.Core.List.{List, [], _∷_, map}
+use mathlib.Core.Path.{_≡_, refl, sym, _∙_}
+use mathlib.Core.Bool.{Bool, true, false}
+use mathlib.Core.List.{List, [], _∷_, _++_}
 use borrow.Author.Tests.{le-leb, lt-leb}
 use lib.Dec.{leb}
-use lib.ListN.{length, drop, getD, length-drop}
-use lib.Seq.{getD-drop}
+use lib.ListN.{length, take, drop, getD, length-take, length-drop}
+use lib.Seq.{getD-drop, getD-take, ext-getD}
 use Rattle.symbol.specs.Word.{isCall, matches}
-use Rattle.symbol.proofs.Word.{call-below, match-call}
+use Rattle.symbol.proofs.Word.{call-below, match-call, match-equal}
+use Rattle.tiling.specs.Each.{Each, none, also}
+use Rattle.tiling.specs.Tally.{tally}
 use Rattle.tiling.specs.Tiling.{Tile, State, best, size, lay, tiling}
 use Rattle.tiling.proofs.Run.{run-within, run-match}
-use Rattle.tiling.proofs.Tally.{tally, tally-length, tally-mark, tally-all}
+use Rattle.tiling.proofs.Tally.{tally-length, tally-mark, tally-all, tally-append}
 use Rattle.tiling.proofs.Greedy.{Greedy, done, more, only, greedy-meets}
 use Rattle.tiling.proofs.Best.{best-is}
 use Rattle.tiling.proofs.Marked.{Worked, worked-none, worked-lay, match-kept}
@@ -43,26 +45,62 @@ best-lies s h =
           (run-match (drop (k .p) (s .pattern)) (drop (k .t) (s .text)) i (omega (arith, r)));
     }
 
+-- ---- what a tile takes
+-- From s to s' these words were taken from each side; n of them are calls.
+pub record Takes (s s' : State) (n : ℕ) : Type 0 where
+  pub words : List ℕ
+  pub whole : tally isCall words ≡ n
+  pub from-pattern : (test : ℕ → Bool) → test 0 ≡ false → tally test (s .pattern) ≡ tally test (s' .pattern) + tally test words
+  pub from-text : (test : ℕ → Bool) → test 0 ≡ false → tally test (s .text) ≡ tally test (s' .text) + tally test words
+
+pub takes-none : (s : State) → Takes s s 0
+unfolding tally
+takes-none s = record { words = []; whole = refl; from-pattern = λ test z. omega arith; from-text = λ test z. omega arith }
+
+pub takes-more : (s₀ s s' : State) (m n : ℕ) → Takes s₀ s m → Takes s s' n → Takes s₀ s' (m + n)
+takes-more s₀ s s' m n a b =
+    record {
+      words = a .words ++ b .words;
+      whole = omega (arith, tally-append isCall (a .words) (b .words), a .whole, b .whole);
+      from-pattern = λ test z. omega (arith, tally-append test (a .words) (b .words), a .from-pattern test z, b .from-pattern test z);
+      from-text = λ test z. omega (arith, tally-append test (a .words) (b .words), a .from-text test z, b .from-text test z);
+    }
+
+-- The words of a tile are the same on both sides, and calls.
+same-words : (s : State) (k : Tile) → Lies s k → take (k .len) (drop (k .t) (s .text)) ≡ take (k .len) (drop (k .p) (s .pattern))
+same-words s k l =
+    let xs = drop (k .t) (s .text) in
+    let ys = drop (k .p) (s .pattern) in
+    let a : length (take (k .len) xs) ≡ k .len = omega (arith, length-take (k .len) xs, length-drop (k .t) (s .text), l .in-text) in
+    let b : length (take (k .len) ys) ≡ k .len = omega (arith, length-take (k .len) ys, length-drop (k .p) (s .pattern), l .in-pattern) in
+    ext-getD 0 (take (k .len) xs) (take (k .len) ys) (a ∙ sym b)
+    (λ i h.
+    let m : i < k .len = omega (arith, a, h) in
+    rw (getD-take (k .len) xs i 0 m, getD-take (k .len) ys i 0 m, getD-drop (k .t) (s .text) i 0, getD-drop (k .p) (s .pattern) i 0)
+    (sym (match-equal _ _ (l .matching i m))))
+
+pub takes-tile : (s : State) (k : Tile) → Lies s k → Takes s (lay s k) (k .len)
+unfolding lay
+takes-tile s k l =
+    record {
+      words = take (k .len) (drop (k .p) (s .pattern));
+      whole =
+          tally-all isCall (k .len) (drop (k .p) (s .pattern)) (omega (arith, length-drop (k .p) (s .pattern), l .in-pattern))
+          (λ i m. rw (getD-drop (k .p) (s .pattern) i 0) (match-call _ _ (l .matching i m)));
+      from-pattern = λ test z. tally-mark test z (k .p) (k .len) (s .pattern);
+      from-text = λ test z. rw (← same-words s k l) (tally-mark test z (k .t) (k .len) (s .text));
+    }
+
 -- ---- the fuel suffices
 -- Free calls of the pattern: each tile takes some.
 abbrev pub calls : State → ℕ
 calls s = tally isCall (s .pattern)
 
-zero-no-call : isCall 0 ≡ false
+pub zero-no-call : isCall 0 ≡ false
 zero-no-call = call-below 0 (omega arith)
 
 pub calls-fall : (s : State) → 1 ≤ best s .len → calls (lay s (best s)) < calls s
-unfolding lay
-calls-fall s h =
-    let k = best s in
-    let l = best-lies s h in
-    let n = length-drop (k .p) (s .pattern) in
-    omega (
-      arith,
-      tally-mark isCall zero-no-call (k .p) (k .len) (s .pattern),
-      tally-all isCall (k .len) (drop (k .p) (s .pattern)) (omega (arith, n, l .in-pattern))
-          (λ i m. rw (getD-drop (k .p) (s .pattern) i 0) (match-call _ _ (l .matching i m))),
-    )
+calls-fall s h = let r = takes-tile s (best s) (best-lies s h) in omega (arith, r .whole, r .from-pattern isCall zero-no-call)
 
 -- The tiling is what the greedy choice lays, whatever the fuel.
 pub tiling-greedy : (minimum : ℕ) → 1 ≤ minimum → (s : State) → Greedy best size lay minimum s (tiling minimum s)
@@ -89,16 +127,7 @@ lies-before s₀ s k r l =
       matching = λ i h. match-kept (s₀ .pattern) (s .pattern) (s₀ .text) (s .text) (r .on-pattern) (r .on-text) (k .p + i) (k .t + i) (l .matching i h);
     }
 
--- Q holds of each entry of a list.
-pub data Each {A : Type 0} (Q : A → Type 0) : List A → Type 0 where
-  none : Each Q []
-  also : {x : A} {xs : List A} → Q x → Each Q xs → Each Q (x ∷ xs)
-
-pub each-map : {A B : Type 0} {Q : A → Type 0} {R : B → Type 0} (f : A → B) → ((x : A) → Q x → R (f x)) → {xs : List A} → Each Q xs → Each R (map f xs)
-each-map f h none = none
-each-map f h (also {x = x} q r) = also (h x q) (each-map f h r)
-
-laid-lie : (s₀ : State) {minimum : ℕ} {s : State} {ks : List Tile} → 1 ≤ minimum → Worked s₀ s → Greedy best size lay minimum s ks → Each (Lies s₀) ks
+pub laid-lie : (s₀ : State) {minimum : ℕ} {s : State} {ks : List Tile} → 1 ≤ minimum → Worked s₀ s → Greedy best size lay minimum s ks → Each (Lies s₀) ks
 laid-lie s₀ one w (done h) = none
 laid-lie s₀ one w (more {s = s} h g) =
     also (lies-before s₀ s (best s) w (best-lies s (omega arith))) (laid-lie s₀ one (worked-lay s₀ s (best s) w) g)

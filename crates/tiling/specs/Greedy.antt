@@ -1,8 +1,10 @@
 -- The greedy choice, over any state: what is best in a state, how long that is, and the state after laying it.
-use Prim.Native.Nat.{ℕ, zero, suc}
+use Prim.Native.Nat.{ℕ, zero, suc, _<_}
 use mathlib.Core.Bool.{true, false}
-use mathlib.Core.List.{List, [], _∷_}
+use mathlib.Core.Path.{_≡_}
+use mathlib.Core.List.{List, [], _∷_, _++_}
 use lib.Dec.{leb, ltb}
+use Rattle.tiling.specs.Each.{Each}
 
 -- The first of the numbers below n at which f is greatest; 0 where there are none.
 unfoldable pub peak : (ℕ → ℕ) → ℕ → ℕ
@@ -17,3 +19,15 @@ module _ {S K : Type 0} (best : S → K) (size : K → ℕ) (lay : S → K → S
   greedy (suc fuel) minimum s =
       elim (leb minimum (size (best s)))
       [ true ↦ best s ∷ greedy fuel minimum (lay s (best s)) | false ↦ [] ]
+
+-- The state after some were laid, one after another.
+module _ {S K : Type 0} (lay : S → K → S) where
+  unfoldable pub after : S → List K → S
+  after s [] = s
+  after s (k ∷ ks) = after (lay s k) ks
+
+-- The list ks is the beginning of ls, and what comes after it is shorter than this.
+pub record Begins {K : Type 0} (size : K → ℕ) (longer : ℕ) (ks ls : List K) : Type 0 where
+  pub rest : List K
+  pub whole : ls ≡ ks ++ rest
+  pub short : Each (λ k. size k < longer) rest

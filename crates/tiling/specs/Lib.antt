@@ -1,3 +1,5 @@
+pub mod Each
+pub mod Tally
 pub mod Run
 pub mod Greedy
 pub mod Tiling
@@ -5,3 +7,4 @@ pub mod Listing
 pub mod Comparing
 pub mod Answer
 pub mod Known
+pub mod Demand

@@ -1,0 +1,115 @@
+-- Demand 3 of what an accepted comparison answers and leaves in the tile buffer, whichever engine made it: the tiles read back from the
+-- buffer are the listing, so all that holds of the listing holds of them.
+-- Assumes nothing.
+use Prim.Native.Nat.{ℕ, _+_, _≤_, _^_}
+use native.Mathlib.Omega.{arith}
+use mathlib.Core.Path.{_≡_, refl, sym, _∙_, ap}
+use mathlib.Core.Bool.{not}
+use mathlib.Core.List.{List, [], _∷_, _++_, map}
+use borrow.Author.Tests.{eqb-false}
+use lib.Dec.{eqb, ltb}
+use lib.ListN.{length, drop, replicate}
+use Rattle.symbol.specs.Sequence.{allSound, tooLong}
+use Rattle.symbol.specs.Refusal.{refuse}
+use Rattle.symbol.proofs.Refusal.{clear}
+use Rattle.buffer.specs.Buffer.{onto}
+use Rattle.tiling.specs.Each.{Each, Pairs}
+use Rattle.tiling.specs.Listing.{Entry, listing, tileWords, covered, score}
+use Rattle.tiling.specs.declared.Compared.{Compared}
+use Rattle.tiling.specs.Comparing.{sequences, minimums, plainRefusal, fastRefusal}
+use Rattle.tiling.specs.Answer.{compared, Compares}
+use Rattle.tiling.specs.Demand.{FreeRun, Stands, Apart, onFirst, onSecond, long, smallerCounts, exchanged, tilesIn, listed, Tiled, Exchanges}
+use Rattle.tiling.proofs.Demand.{listing-tiled, exchange, exchange-count, exchange-covered, exchange-score}
+
+-- Tiles written to the start of a buffer are read back.
+tiles-back : (es : List Entry) (rest : List ℕ) → tilesIn (length es) (tileWords es ++ rest) ≡ es
+unfolding tilesIn tileWords
+tiles-back [] rest = refl
+tiles-back (e ∷ es) rest = ap (λ xs. e ∷ xs) (tiles-back es rest)
+
+pub tiles-read : (es : List Entry) (b : List ℕ) → tilesIn (length es) (onto (tileWords es) b) ≡ es
+tiles-read es b = tiles-back es (drop (length (tileWords es)) b)
+
+-- ---- an accepted comparison
+module _ {r : ℕ} {first second : List ℕ} {minimum : ℕ} {ws b : List ℕ} {a : Compared} {ws' b' : List ℕ} (c : Compares r first second minimum ws b a ws' b') (accepted : a .refusal ≡ 0) where
+  pub answers-number : r ≡ 0
+  answers-number = sym (ap (λ x. x .refusal) (c .answer)) ∙ accepted
+
+  answer-is : a ≡ compared 0 (listing first second minimum) (length first + length second)
+  answer-is = rw answers-number at (c .answer)
+
+  buffer-is : b' ≡ onto (tileWords (listing first second minimum)) b
+  buffer-is = rw answers-number at (c .tiles)
+
+  pub answers-listed : listed a b' ≡ listing first second minimum
+  answers-listed = rw (answer-is, buffer-is) (tiles-read (listing first second minimum) b)
+
+  -- The three answers are those of the tiles in the buffer, and the workspace is zero.
+  pub answers-tiles : a .tiles ≡ length (listed a b')
+  answers-tiles = rw answers-listed (ap (λ x. x .tiles) answer-is)
+
+  pub answers-covered : a .covered ≡ covered (listed a b')
+  answers-covered = rw answers-listed (ap (λ x. x .covered) answer-is)
+
+  pub answers-score : a .score ≡ score (a .covered) (length first + length second)
+  answers-score = rw answer-is refl
+
+  pub answers-zero : ws' ≡ replicate (length ws) 0
+  answers-zero = rw answers-number at (c .workspace)
+
+  pub answers-tiled : 1 ≤ minimum → Tiled first second minimum (listed a b')
+  answers-tiled one = rw answers-listed (listing-tiled first second minimum one)
+
+  -- One by one.
+  pub answers-no-free-run : 1 ≤ minimum → (i j : ℕ) → FreeRun first second (listed a b') minimum i j → ⊥
+  answers-no-free-run one = answers-tiled one .no-free-run
+
+  pub answers-at-one : minimum ≡ 1 → a .covered ≡ smallerCounts (2 ^ 16) first second
+  answers-at-one e = answers-covered ∙ answers-tiled (omega (arith, e)) .at-one e
+
+  pub answers-stand : 1 ≤ minimum → Each (Stands first second) (listed a b')
+  answers-stand one = answers-tiled one .stands
+
+  pub answers-fall : 1 ≤ minimum → Pairs (λ d e. e .len ≤ d .len) (listed a b')
+  answers-fall one = answers-tiled one .falling
+
+  pub answers-apart-first : 1 ≤ minimum → Pairs (Apart onFirst long) (listed a b')
+  answers-apart-first one = answers-tiled one .apart-first
+
+  pub answers-apart-second : 1 ≤ minimum → Pairs (Apart onSecond long) (listed a b')
+  answers-apart-second one = answers-tiled one .apart-second
+
+  pub answers-within-first : 1 ≤ minimum → a .covered ≤ length first
+  answers-within-first one = omega (arith, answers-covered, answers-tiled one .within-first)
+
+  pub answers-within-second : 1 ≤ minimum → a .covered ≤ length second
+  answers-within-second one = omega (arith, answers-covered, answers-tiled one .within-second)
+
+-- ---- two accepted comparisons with the sequences exchanged
+pub answers-exchange : {r r' : ℕ} {first second : List ℕ} {minimum : ℕ} {ws b ws₁ b₁ : List ℕ} {a a' : Compared} {ws' b' ws₁' b₁' : List ℕ} → Compares r first second minimum ws b a ws' b' → Compares r' second first minimum ws₁ b₁ a' ws₁' b₁' → a .refusal ≡ 0 → a' .refusal ≡ 0 → (length first ≡ length second → ⊥) → Exchanges a b' a' b₁'
+answers-exchange {first = first} {second = second} {minimum = minimum} c c' z z' d =
+    record {
+      sides = answers-listed c' z' ∙ (exchange first second minimum d ∙ ap (λ es. map exchanged es) (sym (answers-listed c z)));
+      tiles = rw (answer-is c z, answer-is c' z') (exchange-count first second minimum d);
+      covered = rw (answer-is c z, answer-is c' z') (exchange-covered first second minimum d);
+      score = rw (answer-is c z, answer-is c' z') (exchange-score first second minimum d);
+    }
+
+-- ---- an accepted comparison has a minimum of 1 or more
+sequences-clear : (first second : List ℕ) (later : ℕ) → sequences first second later ≡ 0 → later ≡ 0
+sequences-clear first second later e =
+    let a = clear (tooLong first) 1 (refuse (tooLong second) 1 (refuse (not (allSound first)) 2 (refuse (not (allSound second)) 2 later))) (omega arith) e in
+    let b = clear (tooLong second) 1 (refuse (not (allSound first)) 2 (refuse (not (allSound second)) 2 later)) (omega arith) (a .rest) in
+    let c = clear (not (allSound first)) 2 (refuse (not (allSound second)) 2 later) (omega arith) (b .rest) in
+    clear (not (allSound second)) 2 later (omega arith) (c .rest) .rest
+
+minimums-clear : (minimum later : ℕ) → minimums minimum later ≡ 0 → 1 ≤ minimum
+minimums-clear minimum later e =
+    let r = clear (eqb minimum 0) 3 (refuse (ltb 256 minimum) 3 later) (omega arith) e in
+    omega (arith, eqb-false minimum 0 (r .first))
+
+pub plain-minimum : (first second : List ℕ) (minimum workspace tiles : ℕ) → plainRefusal first second minimum workspace tiles ≡ 0 → 1 ≤ minimum
+plain-minimum first second minimum workspace tiles e = minimums-clear minimum _ (sequences-clear first second _ e)
+
+pub fast-minimum : (first second : List ℕ) (minimum buckets begin workspace tiles : ℕ) → fastRefusal first second minimum buckets begin workspace tiles ≡ 0 → 1 ≤ minimum
+fast-minimum first second minimum buckets begin workspace tiles e = minimums-clear minimum _ (sequences-clear first second _ e)
