@@ -2,12 +2,12 @@
 -- longer and no row before has one as long: it is the best tile, and laying it keeps the sweep's invariant. Where it has none, its bound
 -- falls below the level.
 -- Assumes nothing.
-use Prim.Native.Nat.{ℕ, zero, suc, _+_, _*_, _/_, _≤_, _<_}
-use native.Mathlib.Nat.{add-mul, one-mul, le-div-iff-mul-le}
-use native.Mathlib.Decide.{decLt, decEq}
+use Prim.Native.Nat.{ℕ, zero, suc, _+_, _*_, _/_, _^_, _≤_, _<_}
+use native.Mathlib.Nat.{add-mul, one-mul, mul-one, mul-le-mul-left, le-div-iff-mul-le}
+use native.Mathlib.Decide.{decLt, ℕ-discrete}
 use native.Mathlib.Omega.{arith}
-use mathlib.Core.Path.{_≡_, refl, sym, _∙_, ap}
-use mathlib.Core.Bool.{true, false}
+use mathlib.Core.Path.{_≡_, refl, sym, _∙_, ap, subst}
+use mathlib.Core.Bool.{Bool, true, false}
 use mathlib.Core.List.{List, [], _∷_, _++_, map, append-assoc}
 use lib.ListN.{length, take, drop, getD, set, length-append, length-map, length-set, length-drop, length-take}
 use lib.Seq.{getD-set-same, getD-set-other, getD-drop, drop-cons}
@@ -19,11 +19,11 @@ use Rattle.tiling.specs.Run.{run, mark}
 use Rattle.tiling.specs.Tiling.{Tile, State, runAt, best, size, lay}
 use Rattle.tiling.specs.Listing.{Entry, tileWords, covered}
 use Rattle.tiling.proofs.Run.{zero-left, run-within, run-match, mark-inside}
-use Rattle.tiling.proofs.Tally.{tally, tally-mark, tally-all}
+use Rattle.tiling.specs.Tally.{tally}
 use Rattle.tiling.proofs.Greedy.{Greedy, done, more}
 use Rattle.tiling.proofs.Best.{Best, best-is, best-only, past-pattern}
 use Rattle.tiling.proofs.Marked.{lay-shrinks}
-use Rattle.tiling.proofs.Tiling.{Lies, best-lies, calls, calls-laid}
+use Rattle.tiling.proofs.Tiling.{Lies, best-lies, zero-no-call, takes-tile}
 use Rattle.tile.specs.Listed.{listed}
 use Rattle.tile.proofs.Tail.{listed-more}
 use Rattle.sweep.specs.Workspace.{Space, state, boundsFrom, bound, laid}
@@ -33,6 +33,36 @@ use Rattle.sweep.specs.declared.Job.{Job}
 use Rattle.sweep.specs.declared.Found.{Found}
 use Rattle.sweep.specs.declared.Totals.{Totals}
 use Rattle.sweep.proofs.Workspace.{state-set, state-laid, length-laid, pattern-length, text-length, bound-covered, bound-before, bound-after}
+
+-- ---- lists of tiles
+map-append : {A B : Type 0} (g : A → B) (xs ys : List A) → map g (xs ++ ys) ≡ map g xs ++ map g ys
+map-append g [] ys = refl
+map-append g (x ∷ xs) ys = ap (λ zs. g x ∷ zs) (map-append g xs ys)
+
+covered-append : (es : List Entry) (e : Entry) → covered (es ++ (e ∷ [])) ≡ covered es + e .len
+unfolding covered
+covered-append [] e = omega arith
+covered-append (d ∷ es) e = omega (arith, covered-append es e)
+
+-- One tile more takes no room from the buffer.
+length-listed : (count : ℕ) (b : List ℕ) (x : Entry) → 3 * (count + 1) ≤ length b → length (take (3 * count) b ++ onto (tileWords (x ∷ [])) (drop (3 * count) b)) ≡ length b
+unfolding tileWords
+length-listed count b x h =
+    let w = tileWords (x ∷ []) in
+    let d = length-drop (3 * count) b in
+    let o : length (onto w (drop (3 * count) b)) ≡ length (drop (3 * count) b) = length-onto w (drop (3 * count) b) (omega (arith, d)) in
+    omega (arith, length-append (take (3 * count) b) (onto w (drop (3 * count) b)), o, d, length-take (3 * count) b)
+
+-- A row whose first word is marked has no run.
+run-zero : (ps ts : List ℕ) → getD ps 0 0 ≡ 0 → run ps ts ≡ 0
+run-zero ps ts e = go (decLt 0 (run ps ts))
+  where
+    go : Dec (0 < run ps ts) → run ps ts ≡ 0
+    go (yes h) = let m = run-match ps ts 0 h in absurd (clash (sym (rw e at m) ∙ zero-left (getD ts 0 0)))
+      where
+        clash : true ≡ false → ⊥
+        clash k = let z : _≡_ {A = ℕ} 0 1 = cc in omega arith
+    go (no h) = omega (arith, h)
 
 -- No run exceeds the level.
 pub below-level : (j : Job) (ws : List ℕ) (level p : ℕ) → Space j ws → Bounded j ws level p → (q t : ℕ) → runAt (state j ws) q t ≤ level
@@ -51,9 +81,18 @@ module _ (j : Job) (level p : ℕ) (ws b : List ℕ) (k : Totals) (f : Found) (s
       go (yes h) = omega (arith, r .row .long h, below-level j ws level p (s .fits .space) (s .bounded) p (f .t .0))
       go (no h) = omega (arith, h, r .below)
 
+  pub found-small : f .len ≤ 2048
+  found-small = go (decLt (r .floor) (f .len))
+    where
+      go : Dec (r .floor < f .len) → f .len ≤ 2048
+      go (yes h) =
+          let w = run-within (drop p (state j ws .pattern)) (drop (f .t .0) (state j ws .text)) in
+          omega (arith, r .row .long h, w, length-drop p (state j ws .pattern), pattern-length j ws (s .fits .space), s .fits .space .short-pattern)
+      go (no h) = omega (arith, h, r .low)
+
   -- ---- a shorter run is the row's new bound
   module _ (short : f .len ≡ level → ⊥) where
-    pub lowered : Sweeping j level (p + 1) (set ws (boundsFrom j + p) (f .len)) b k
+    lowered : Sweeping j level (p + 1) (set ws (boundsFrom j + p) (f .len)) b k
     lowered =
         record {
           fits =
@@ -71,9 +110,9 @@ module _ (j : Job) (level p : ℕ) (ws b : List ℕ) (k : Totals) (f : Found) (s
               };
           bounded =
               record {
-                upper = λ q t h. rw (state-set j ws p (f .len)) (upper q t h (decEq q p));
-                capped = λ q h. capped q h (decEq q p);
-                passed = λ q h. passed q h (decEq q p);
+                upper = λ q t h. subst (λ u. runAt u q t ≤ bound j (set ws (boundsFrom j + p) (f .len)) q) (sym (state-set j ws p (f .len))) (upper q t h (ℕ-discrete q p));
+                capped = λ q h. capped q h (ℕ-discrete q p);
+                passed = λ q h. passed q h (ℕ-discrete q p);
               };
           long = s .long;
           within = omega arith;
@@ -97,7 +136,7 @@ module _ (j : Job) (level p : ℕ) (ws b : List ℕ) (k : Totals) (f : Found) (s
         passed q h (yes e) = rw e (omega (arith, here, found-most, short))
         passed q h (no d) = omega (arith, there q d, s .bounded .passed q (omega (arith, d)))
 
-    pub lowered-onward : Onward j ws b k (set ws (boundsFrom j + p) (f .len)) b k
+    lowered-onward : Onward j ws b k (set ws (boundsFrom j + p) (f .len)) b k
     lowered-onward =
         record {
           keeps = λ s₀ b₀ l.
@@ -109,3 +148,186 @@ module _ (j : Job) (level p : ℕ) (ws b : List ℕ) (k : Totals) (f : Found) (s
                 summed = l .summed;
               };
         }
+
+    -- The same of a workspace that was made so.
+    module _ (ws' : List ℕ) (w : ws' ≡ set ws (boundsFrom j + p) (f .len)) where
+      pub lowered-sweep : Sweeping j level (p + 1) ws' b k
+      lowered-sweep = subst (λ x. Sweeping j level (p + 1) x b k) (sym w) lowered
+
+      pub lowered-lays : Onward j ws b k ws' b k
+      lowered-lays = subst (λ x. Onward j ws b k x b k) (sym w) lowered-onward
+
+  -- ---- a run of the level's length is the next tile
+  module _ (full : f .len ≡ level) where
+    abbrev pub next : Tile
+    next = record { p = p; t = f .t .0; len = level }
+
+    above-floor : r .floor < f .len
+    above-floor = omega (arith, full, r .below)
+
+    next-best : Best (state j ws) next
+    next-best =
+        record {
+          long = sym full ∙ sym (r .row .long above-floor);
+          most = below-level j ws level p (s .fits .space) (s .bounded);
+          above = λ q t h. omega (arith, s .bounded .upper q t (omega arith), s .bounded .passed q h);
+          before = λ t h. omega (arith, full, r .row .first above-floor t h);
+        }
+
+    pub next-is : best (state j ws) ≡ next
+    next-is = best-only (state j ws) (best (state j ws)) next (best-is (state j ws)) next-best
+
+    next-lies : Lies (state j ws) next
+    next-lies =
+        let e : best (state j ws) .len ≡ level = ap size next-is in
+        subst (λ k. Lies (state j ws) k) next-is (best-lies (state j ws) (omega (arith, e, s .long, s .fits .least)))
+
+    -- It lies within both sequences.
+    pub in-pattern : p + level ≤ j .n
+    in-pattern = omega (arith, next-lies .in-pattern, pattern-length j ws (s .fits .space))
+
+    pub in-text : f .t .0 + level ≤ j .m
+    in-text = omega (arith, next-lies .in-text, text-length j ws (s .fits .space))
+
+    -- ---- its room
+    after-state : state j (laid j p (f .t .0) level ws) ≡ lay (state j ws) next
+    after-state = state-laid j ws p (f .t .0) level in-pattern in-text
+
+    -- It takes its words from the free calls of the pattern.
+    free-after : k .covered + level + tally isCall (take (j .n) (laid j p (f .t .0) level ws)) ≤ j .n
+    free-after =
+        let e : tally isCall (take (j .n) (laid j p (f .t .0) level ws)) ≡ tally isCall (lay (state j ws) next .pattern) =
+        ap (λ (u : State). tally isCall (u .pattern)) after-state in
+        let t = takes-tile (state j ws) next next-lies in
+        omega (arith, e, t .whole, t .from-pattern isCall zero-no-call, s .fits .free)
+
+    each-after : (k .count + 1) * j .minimum ≤ k .covered + level
+    each-after = omega (arith, add-mul (k .count) 1 (j .minimum), one-mul (j .minimum), s .fits .each, s .long)
+
+    -- So there is room for one tile more.
+    pub tile-fits : 3 * (k .count + 1) ≤ length b
+    tile-fits =
+        let q : k .count + 1 ≤ j .n / j .minimum = le-div-iff-mul-le (s .fits .least) .1 (omega (arith, each-after, free-after)) in
+        omega (arith, q, s .fits .tile-room)
+
+    -- And its numbers fit their types.
+    few-covered : k .covered + level ≤ 2048
+    few-covered = omega (arith, free-after, s .fits .space .short-pattern)
+
+    few-tiles : k .count + 1 ≤ 2048
+    few-tiles =
+        let m = mul-le-mul-left (k .count + 1) (s .fits .least) in
+        omega (arith, m, mul-one (k .count + 1), each-after, few-covered)
+
+    pub covered-fits : k .covered + level < 2 ^ 64
+    covered-fits = omega (arith, few-covered)
+
+    pub count-fits : k .count + 1 < 2 ^ 64
+    count-fits = omega (arith, few-tiles)
+
+    pub count-small : k .count ≤ 2048
+    count-small = omega (arith, few-tiles)
+
+    pub level-small : level ≤ 2048
+    level-small = omega (arith, few-covered)
+
+    pub text-small : f .t .0 ≤ 2048
+    text-small = omega (arith, in-text, s .fits .space .short-text)
+
+    -- ---- the sweep goes on
+    -- A row that the tile covers has no run any more: its first word is marked.
+    covered-row : (q t : ℕ) → p ≤ q → q < p + level → runAt (lay (state j ws) next) q t ≡ 0
+    unfolding lay
+    covered-row q t h l =
+        let marked = mark p level (state j ws .pattern) in
+        let e : q + 0 ≡ q = omega arith in
+        run-zero (drop q marked) (drop t (lay (state j ws) next .text))
+        (getD-drop q marked 0 0 ∙ rw e (mark-inside p level (state j ws .pattern) q h l))
+
+    upper-after : (q t : ℕ) → q < j .n → runAt (lay (state j ws) next) q t ≤ bound j (laid j p (f .t .0) level ws) q
+    upper-after q t h = go (decLt q p) (decLt q (p + level))
+      where
+        kept : bound j (laid j p (f .t .0) level ws) q ≡ bound j ws q → runAt (lay (state j ws) next) q t ≤ bound j (laid j p (f .t .0) level ws) q
+        kept e = omega (arith, e, lay-shrinks (state j ws) next q t, s .bounded .upper q t h)
+
+        go : Dec (q < p) → Dec (q < p + level) → runAt (lay (state j ws) next) q t ≤ bound j (laid j p (f .t .0) level ws) q
+        go (yes l) d = kept (bound-before j ws p (f .t .0) level q in-pattern in-text l)
+        go (no l) (yes m) = omega (arith, covered-row q t (omega (arith, l)) m)
+        go (no l) (no m) = kept (bound-after j ws p (f .t .0) level q in-pattern in-text (omega (arith, m)))
+
+    -- No bound rises.
+    bound-falls : (q : ℕ) → bound j (laid j p (f .t .0) level ws) q ≤ bound j ws q
+    bound-falls q = go (decLt q p) (decLt q (p + level))
+      where
+        go : Dec (q < p) → Dec (q < p + level) → bound j (laid j p (f .t .0) level ws) q ≤ bound j ws q
+        go (yes l) d = omega (arith, bound-before j ws p (f .t .0) level q in-pattern in-text l)
+        go (no l) (yes m) = omega (arith, bound-covered j ws p (f .t .0) level q (omega (arith, l)) m)
+        go (no l) (no m) = omega (arith, bound-after j ws p (f .t .0) level q in-pattern in-text (omega (arith, m)))
+
+    passed-after : (q : ℕ) → q < p + 1 → bound j (laid j p (f .t .0) level ws) q < level
+    passed-after q h = go (decLt q p)
+      where
+        go : Dec (q < p) → bound j (laid j p (f .t .0) level ws) q < level
+        go (yes l) = omega (arith, bound-falls q, s .bounded .passed q l)
+        go (no l) = omega (arith, bound-covered j ws p (f .t .0) level q (omega (arith, l)) (omega (arith, s .long, s .fits .least)), s .long, s .fits .least)
+
+    module _ (b' : List ℕ) (e : b' ≡ take (3 * k .count) b ++ onto (tileWords (listed (j .straight) p (f .t .0) level ∷ [])) (drop (3 * k .count) b)) where
+      stepped : Sweeping j level (p + 1) (laid j p (f .t .0) level ws) b' (record { count = k .count + 1; covered = k .covered + level })
+      stepped =
+          record {
+            fits =
+                record {
+                  space =
+                      record {
+                        short-pattern = s .fits .space .short-pattern;
+                        short-text = s .fits .space .short-text;
+                        roomy = rw (length-laid j ws p (f .t .0) level) (s .fits .space .roomy);
+                      };
+                  least = s .fits .least;
+                  tile-room = rw (same-room) (s .fits .tile-room);
+                  each = each-after;
+                  free = free-after;
+                };
+            bounded =
+                record {
+                  upper = λ q t h. subst (λ u. runAt u q t ≤ bound j (laid j p (f .t .0) level ws) q) (sym after-state) (upper-after q t h);
+                  capped = λ q h. omega (arith, bound-falls q, s .bounded .capped q h);
+                  passed = passed-after;
+                };
+            long = s .long;
+            within = omega arith;
+          }
+        where
+          same-room : length b' ≡ length b
+          same-room = ap length e ∙ length-listed (k .count) b (listed (j .straight) p (f .t .0) level) tile-fits
+
+      stepped-onward : Onward j ws b k (laid j p (f .t .0) level ws) b' (record { count = k .count + 1; covered = k .covered + level })
+      stepped-onward =
+          record {
+            keeps = λ s₀ b₀ l.
+                record {
+                  tiles = l .tiles ++ (next ∷ []);
+                  rest = λ ls g. rw (append-assoc (l .tiles) (next ∷ []) ls) (l .rest (next ∷ ls) (lay-next ls g));
+                  held = e ∙ (rw (l .held, l .counted, map-append (entry j) (l .tiles) (next ∷ []), ← length-map (l .tiles) (entry j)) (listed-more (map (entry j) (l .tiles)) (entry j next ∷ []) b₀));
+                  counted = rw (length-append (l .tiles) (next ∷ []), l .counted) refl;
+                  summed = rw (map-append (entry j) (l .tiles) (next ∷ []), covered-append (map (entry j) (l .tiles)) (entry j next), ← l .summed) (one-more (j .straight));
+                };
+          }
+        where
+          lay-next : (ls : List Tile) → Greedy best size lay (j .minimum) (state j (laid j p (f .t .0) level ws)) ls → Greedy best size lay (j .minimum) (state j ws) (next ∷ ls)
+          lay-next ls g =
+              let h : Greedy best size lay (j .minimum) (lay (state j ws) (best (state j ws))) ls =
+              subst (λ u. Greedy best size lay (j .minimum) u ls) (after-state ∙ ap (λ k. lay (state j ws) k) (sym next-is)) g in
+              let m : j .minimum ≤ size (best (state j ws)) = omega (arith, ap size next-is, s .long) in
+              subst (λ k. Greedy best size lay (j .minimum) (state j ws) (k ∷ ls)) next-is (more m h)
+
+          one-more : (straight : Bool) → k .covered + level ≡ k .covered + listed straight p (f .t .0) level .len
+          one-more true = refl
+          one-more false = refl
+
+      module _ (ws' : List ℕ) (w : ws' ≡ laid j p (f .t .0) level ws) where
+        pub stepped-sweep : Sweeping j level (p + 1) ws' b' (record { count = k .count + 1; covered = k .covered + level })
+        stepped-sweep = subst (λ x. Sweeping j level (p + 1) x b' (record { count = k .count + 1; covered = k .covered + level })) (sym w) stepped
+
+        pub stepped-lays : Onward j ws b k ws' b' (record { count = k .count + 1; covered = k .covered + level })
+        stepped-lays = subst (λ x. Onward j ws b k x b' (record { count = k .count + 1; covered = k .covered + level })) (sym w) stepped-onward

@@ -7,7 +7,7 @@ use Rattle.symbol.specs.Word.{isCall}
 use Rattle.buffer.specs.Buffer.{onto}
 use Rattle.tiling.specs.Tiling.{Tile, State, runAt, best, size, lay}
 use Rattle.tiling.specs.Listing.{Entry, tileWords, covered}
-use Rattle.tiling.proofs.Tally.{tally}
+use Rattle.tiling.specs.Tally.{tally}
 use Rattle.tiling.proofs.Greedy.{Greedy}
 use Rattle.tile.specs.Listed.{listed}
 use Rattle.sweep.specs.Workspace.{Space, state, bound}
@@ -57,5 +57,6 @@ pub record Sweeping (j : Job) (level p : ℕ) (ws b : List ℕ) (k : Totals) : T
 -- The row at p was searched, for runs longer than a floor below the level.
 pub record Searched (j : Job) (ws : List ℕ) (level p : ℕ) (f : Found) : Type 0 where
   pub floor : ℕ
+  pub low : floor ≤ 2048
   pub below : floor < level
   pub row : Row (drop p (state j ws .pattern)) (state j ws .text) floor f
