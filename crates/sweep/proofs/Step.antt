@@ -2,7 +2,7 @@
 -- longer and no row before has one as long: it is the best tile, and laying it keeps the sweep's invariant. Where it has none, its bound
 -- falls below the level.
 -- Assumes nothing.
-use Prim.Native.Nat.{ℕ, zero, suc, _+_, _*_, _/_, _^_, _≤_, _<_}
+use Prim.Native.Nat.{ℕ, zero, _+_, _*_, _/_, _^_, _≤_, _<_}
 use native.Mathlib.Nat.{add-mul, one-mul, mul-one, mul-le-mul-left, le-div-iff-mul-le}
 use native.Mathlib.Decide.{decLt, ℕ-discrete}
 use native.Mathlib.Omega.{arith}
@@ -10,9 +10,8 @@ use mathlib.Core.Path.{_≡_, refl, sym, _∙_, ap, subst}
 use mathlib.Core.Bool.{Bool, true, false}
 use mathlib.Core.List.{List, [], _∷_, _++_, map, append-assoc}
 use lib.ListN.{length, take, drop, getD, set, length-append, length-map, length-set, length-drop, length-take}
-use lib.Seq.{getD-set-same, getD-set-other, getD-drop, drop-cons}
+use lib.Seq.{getD-set-same, getD-set-other, getD-drop}
 use Rattle.symbol.specs.Word.{isCall}
-use Rattle.symbol.proofs.Word.{match-call}
 use Rattle.buffer.specs.Buffer.{onto}
 use Rattle.buffer.proofs.Buffer.{length-onto}
 use Rattle.tiling.specs.Run.{run, mark}
@@ -20,15 +19,14 @@ use Rattle.tiling.specs.Tiling.{Tile, State, runAt, best, size, lay}
 use Rattle.tiling.specs.Listing.{Entry, tileWords, covered}
 use Rattle.tiling.proofs.Run.{zero-left, run-within, run-match, mark-inside}
 use Rattle.tiling.specs.Tally.{tally}
-use Rattle.tiling.proofs.Greedy.{Greedy, done, more}
+use Rattle.tiling.proofs.Greedy.{Greedy, more}
 use Rattle.tiling.proofs.Best.{Best, best-is, best-only, past-pattern}
 use Rattle.tiling.proofs.Marked.{lay-shrinks}
 use Rattle.tiling.proofs.Tiling.{Lies, best-lies, zero-no-call, takes-tile}
 use Rattle.tile.specs.Listed.{listed}
 use Rattle.tile.proofs.Tail.{listed-more}
 use Rattle.sweep.specs.Workspace.{Space, state, boundsFrom, bound, laid}
-use Rattle.sweep.specs.Row.{Row}
-use Rattle.sweep.specs.Progress.{Fits, Laid, Onward, Bounded, Sweeping, Searched, entry}
+use Rattle.sweep.specs.Progress.{Onward, Bounded, Sweeping, Searched, entry}
 use Rattle.sweep.specs.declared.Job.{Job}
 use Rattle.sweep.specs.declared.Found.{Found}
 use Rattle.sweep.specs.declared.Totals.{Totals}

@@ -1,9 +1,9 @@
 -- The parts of the workspace: what a store in one part leaves of the others.
 -- Assumes nothing.
-use Prim.Native.Nat.{ℕ, zero, suc, _+_, _-_, _*_, _≤_, _<_}
+use Prim.Native.Nat.{ℕ, _+_, _-_, _*_, _≤_, _<_}
 use native.Mathlib.Omega.{arith}
-use mathlib.Core.Path.{_≡_, refl, sym, _∙_, ap}
-use mathlib.Core.List.{List, [], _∷_, _++_}
+use mathlib.Core.Path.{_≡_, refl, _∙_}
+use mathlib.Core.List.{List, _++_}
 use lib.ListN.{length, take, drop, getD, set, length-drop}
 use lib.Seq.{length-take-le, getD-drop, getD-take, take-set-le, drop-set-add}
 use Rattle.buffer.specs.Buffer.{onto}
