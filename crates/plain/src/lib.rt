@@ -18,7 +18,7 @@ ghost use Rattle.tiling.specs.Answer.{compared, tileBuffer, cleared};
 ghost use Rattle.sweep.specs.Workspace.{Space, state};
 ghost use Rattle.sweep.specs.Row.{Row};
 ghost use Rattle.sweep.specs.Progress.{Fits, Sweeping, Onward};
-ghost use Rattle.plain.specs.Passes.{Scanned, Filled, Done};
+ghost use Rattle.plain.specs.Passes.{Scanned};
 
 // The first position from `from` on that holds w, or the end.
 fn next_word(words: &[u32], from: usize, w: u32) -> usize

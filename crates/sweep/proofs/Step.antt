@@ -102,6 +102,7 @@ module _ (j : Job) (level p : ℕ) (ws b : List ℕ) (k : Totals) (f : Found) (s
                       roomy = rw (length-set ws (boundsFrom j + p) (f .len)) (s .fits .space .roomy);
                     };
                 least = s .fits .least;
+                most = s .fits .most;
                 tile-room = s .fits .tile-room;
                 each = s .fits .each;
                 free = rw (ap (λ (u : State). u .pattern) (state-set j ws p (f .len))) (s .fits .free);
@@ -282,6 +283,7 @@ module _ (j : Job) (level p : ℕ) (ws b : List ℕ) (k : Totals) (f : Found) (s
                         roomy = rw (length-laid j ws p (f .t .0) level) (s .fits .space .roomy);
                       };
                   least = s .fits .least;
+                  most = s .fits .most;
                   tile-room = rw (same-room) (s .fits .tile-room);
                   each = each-after;
                   free = free-after;

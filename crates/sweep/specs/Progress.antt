@@ -20,6 +20,7 @@ use Rattle.sweep.specs.declared.Totals.{Totals}
 pub record Fits (j : Job) (ws b : List ℕ) (k : Totals) : Type 0 where
   pub space : Space j ws
   pub least : 1 ≤ j .minimum
+  pub most : j .minimum ≤ 256
   pub tile-room : 3 * (j .n / j .minimum) ≤ length b
   pub each : k .count * j .minimum ≤ k .covered
   pub free : k .covered + tally isCall (take (j .n) ws) ≤ j .n

@@ -1,0 +1,145 @@
+-- Searching a row. What was found so far is the longest of the runs before t, or the floor. A longer run at u has the pattern's word at
+-- that offset, so the positions between two occurrences of it can be passed over; and where too few words are left, no run is longer.
+-- Assumes nothing.
+use Prim.Native.Nat.{ℕ, zero, suc, _+_, _-_, _≤_, _<_, max}
+use native.Mathlib.Nat.{not-suc-le-zero}
+use native.Mathlib.Decide.{decLt, ℕ-discrete}
+use native.Mathlib.Omega.{arith}
+use mathlib.Core.Path.{_≡_, sym, _∙_, subst}
+use mathlib.Core.Bool.{true}
+use mathlib.Core.List.{List}
+use borrow.Author.Tests.{ltb-true}
+use lib.Dec.{ltb}
+use lib.ListN.{length, take, drop, getD, length-drop}
+use lib.Seq.{getD-drop}
+use Rattle.symbol.proofs.Word.{no-match-differ}
+use Rattle.tiling.specs.Run.{run}
+use Rattle.tiling.proofs.Run.{run-within}
+use Rattle.tile.specs.declared.TextAt.{TextAt}
+use Rattle.tile.proofs.Measure.{run-most}
+use Rattle.tile.proofs.Tail.{tail-is}
+use Rattle.sweep.specs.Row.{Row, better}
+use Rattle.sweep.specs.declared.Found.{Found}
+use Rattle.sweep.proofs.Row.{better-new, better-old}
+use Rattle.plain.specs.Passes.{Scanned}
+
+-- ---- the next occurrence of a word
+pub record Scanning (words : List ℕ) (from w i : ℕ) : Type 0 where
+  pub least : from ≤ i
+  pub within : i ≤ length words
+  pub none : (k : ℕ) → from ≤ k → k < i → getD words k 0 ≡ w → ⊥
+
+pub scanning-none : (words : List ℕ) (from w : ℕ) → from ≤ length words → Scanning words from w from
+scanning-none words from w h = record { least = omega arith; within = h; none = λ k a b e. absurd (omega arith) }
+
+pub scanning-more : (words : List ℕ) (from w i : ℕ) → Scanning words from w i → i < length words → (getD words i 0 ≡ w → ⊥) → Scanning words from w (i + 1)
+scanning-more words from w i r h d = record { least = omega (arith, r .least); within = omega arith; none = λ k a b. none k a b (ℕ-discrete k i) }
+  where
+    none : (k : ℕ) → from ≤ k → k < i + 1 → Dec (k ≡ i) → getD words k 0 ≡ w → ⊥
+    none k a b (yes e) = rw e d
+    none k a b (no n) = r .none k a (omega (arith, n))
+
+pub scanned-end : (words : List ℕ) (from w i : ℕ) → Scanning words from w i → length words ≤ i → Scanned words from w i
+scanned-end words from w i r h = record { least = r .least; within = r .within; none = r .none; stops = λ l. absurd (omega arith) }
+
+pub scanned-at : (words : List ℕ) (from w i : ℕ) → Scanning words from w i → getD words i 0 ≡ w → Scanned words from w i
+scanned-at words from w i r e = record { least = r .least; within = r .within; none = r .none; stops = λ l. e }
+
+-- ---- a row
+-- What the loop's test says of the next word's place.
+pub in-reach : (i n : ℕ) → ltb i n ≡ true → i ≤ n
+in-reach i n e = omega (arith, ltb-true i n e)
+
+pub record Seen (ps ts : List ℕ) (floor t : ℕ) (f : Found) : Type 0 where
+  pub short-pattern : length ps ≤ 2048
+  pub short-text : length ts ≤ 2048
+  pub within : t ≤ length ts + 1
+  pub small : f .len ≤ 2048
+  pub least : floor ≤ f .len
+  pub most : (u : ℕ) → u < t → run ps (drop u ts) ≤ f .len
+  pub long : floor < f .len → run ps (drop (f .t .0) ts) ≡ f .len
+  pub first : floor < f .len → (u : ℕ) → u < f .t .0 → run ps (drop u ts) < f .len
+
+pub seen-none : (ps ts : List ℕ) (floor : ℕ) (a : TextAt) → floor ≤ 2048 → length ps ≤ 2048 → length ts ≤ 2048 → Seen ps ts floor 0 (record { t = a; len = floor })
+seen-none ps ts floor a h p t =
+    record {
+      short-pattern = p;
+      short-text = t;
+      within = omega arith;
+      small = h;
+      least = omega arith;
+      most = λ u l. absurd (not-suc-le-zero l);
+      long = λ l. absurd (omega arith);
+      first = λ l. absurd (omega arith);
+    }
+
+module _ (ps ts : List ℕ) (floor t : ℕ) (f : Found) (r len : ℕ) (a : TextAt) (s : Seen ps ts floor t f) (h : f .len < length ps) (k : t + f .len < length ts) (c : Scanned ts (t + f .len) (getD ps (f .len) 0) r) (at : a .0 ≡ r - f .len) (e : len ≡ max (f .len) (run ps (take (length ts - (r - f .len)) (drop (r - f .len) ts)))) where
+  -- A position that was passed over lacks the word at that offset.
+  passed-over : (u : ℕ) → t ≤ u → u < r - f .len → run ps (drop u ts) ≤ f .len
+  passed-over u l m =
+      run-most ps (drop u ts) (f .len)
+      (no-match-differ (getD ps (f .len) 0) (getD (drop u ts) (f .len) 0)
+      (λ q. c .none (u + f .len) (omega arith) (omega arith) (sym (getD-drop u ts (f .len) 0) ∙ sym q)))
+
+  before : (u : ℕ) → u < r - f .len → run ps (drop u ts) ≤ f .len
+  before u l = go (decLt u t)
+    where
+      go : Dec (u < t) → run ps (drop u ts) ≤ f .len
+      go (yes m) = s .most u m
+      go (no m) = passed-over u (omega (arith, m)) l
+
+  here : len ≡ max (f .len) (run ps (drop (r - f .len) ts))
+  here = rw (tail-is (r - f .len) ts) at e
+
+  reached : (n : ℕ) → f .len ≤ n → run ps (drop (r - f .len) ts) ≤ n → (u : ℕ) → u < r - f .len + 1 → run ps (drop u ts) ≤ n
+  reached n l m u b = go (ℕ-discrete u (r - f .len))
+    where
+      go : Dec (u ≡ r - f .len) → run ps (drop u ts) ≤ n
+      go (yes q) = rw q m
+      go (no d) = omega (arith, before u (omega (arith, d)))
+
+  seen-better : Seen ps ts floor (r - f .len + 1) (better f a len)
+  seen-better = go (decLt (f .len) len)
+    where
+      go : Dec (f .len < len) → Seen ps ts floor (r - f .len + 1) (better f a len)
+      go (yes l) =
+          subst (λ g. Seen ps ts floor (r - f .len + 1) g) (better-new f a len l)
+          (record {
+            short-pattern = s .short-pattern;
+            short-text = s .short-text;
+            within = omega (arith, c .within);
+            small = omega (arith, here, run-within ps (drop (r - f .len) ts), s .short-pattern);
+            least = omega (arith, s .least);
+            most = reached len (omega arith) (omega (arith, here));
+            long = λ m. rw at (omega (arith, here));
+            first = λ m u b. omega (arith, before u (omega (arith, at)));
+          })
+      go (no l) =
+          subst (λ g. Seen ps ts floor (r - f .len + 1) g) (better-old f a len (omega (arith, l)))
+          (record {
+            short-pattern = s .short-pattern;
+            short-text = s .short-text;
+            within = omega (arith, c .within);
+            small = s .small;
+            least = s .least;
+            most = reached (f .len) (omega arith) (omega (arith, l, here));
+            long = s .long;
+            first = s .first;
+          })
+
+  pub seen-more : (g : Found) → g ≡ better f a len → Seen ps ts floor (r - f .len + 1) g
+  seen-more g q = subst (λ x. Seen ps ts floor (r - f .len + 1) x) (sym q) seen-better
+
+-- At the end no run is longer: the pattern has no more words, or the text has none from t on.
+seen-end : (ps ts : List ℕ) (floor t : ℕ) (f : Found) → Seen ps ts floor t f → ((u : ℕ) → t ≤ u → run ps (drop u ts) ≤ f .len) → Row ps ts floor f
+seen-end ps ts floor t f s later = record { least = s .least; most = λ u. go u (decLt u t); long = s .long; first = s .first }
+  where
+    go : (u : ℕ) → Dec (u < t) → run ps (drop u ts) ≤ f .len
+    go u (yes h) = s .most u h
+    go u (no h) = later u (omega (arith, h))
+
+pub seen-pattern : (ps ts : List ℕ) (floor t : ℕ) (f : Found) → Seen ps ts floor t f → length ps ≤ f .len → Row ps ts floor f
+seen-pattern ps ts floor t f s h = seen-end ps ts floor t f s (λ u l. omega (arith, run-within ps (drop u ts)))
+
+pub seen-text : (ps ts : List ℕ) (floor t : ℕ) (f : Found) → Seen ps ts floor t f → length ts ≤ t + f .len → Row ps ts floor f
+seen-text ps ts floor t f s h = seen-end ps ts floor t f s (λ u l. omega (arith, run-within ps (drop u ts), length-drop u ts))

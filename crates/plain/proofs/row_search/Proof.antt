@@ -1,0 +1,94 @@
+-- `plain::row_search` meets its contract: at the head of each turn what was found is the longest of the runs before t, or the floor.
+-- Assumes nothing.
+use Prim.Native.Nat.{_+_, _-_}
+use borrow.Author.Needs.{needs}
+use borrow.Author.Tests.{ltb-true, ltb-false}
+use lib.ListN.{length}
+use Rattle.plain.proofs.Scan.{Seen, in-reach, seen-none, seen-more, seen-pattern, seen-text}
+use Rattle.plain.proofs.row_search.Statement.{statement}
+use Rattle.plain.proofs.row_search.Tie as tie
+
+abbrev Inv-loop : tie.InvT-loop
+Inv-loop pattern text floor found₀ t₀ found t = Seen pattern text floor t found
+
+abbrev μ-loop : tie.MeasureT-loop
+μ-loop pattern text floor found₀ t₀ found t = length text + 1 - t
+
+loop-holds : tie.Need-loop-holds Inv-loop μ-loop
+loop-holds c = search seen-none
+
+add-if2 : tie.Need-add-if2 Inv-loop μ-loop
+add-if2 c = search needs
+
+add-next-word : tie.Need-add-next-word Inv-loop μ-loop
+add-next-word c = search needs
+
+mul-next-word : tie.Need-mul-next-word Inv-loop μ-loop
+mul-next-word c = search needs
+
+shared-slice-read-next-word : tie.Need-shared-slice-read-next-word Inv-loop μ-loop
+shared-slice-read-next-word c = search needs
+
+next-word-requires : tie.Need-next-word-requires Inv-loop μ-loop
+next-word-requires c κs = search in-reach
+
+sub-at : tie.Need-sub-at Inv-loop μ-loop
+sub-at c = search needs
+
+mul-longer-run : tie.Need-mul-longer-run Inv-loop μ-loop
+mul-longer-run c = search needs
+
+sub-longer-run : tie.Need-sub-longer-run Inv-loop μ-loop
+sub-longer-run c = search needs
+
+part-longer-run-start : tie.Need-part-longer-run-start Inv-loop μ-loop
+part-longer-run-start c = search needs
+
+part-longer-run-end : tie.Need-part-longer-run-end Inv-loop μ-loop
+part-longer-run-end c = search needs
+
+longer-run-requires : tie.Need-longer-run-requires Inv-loop μ-loop
+longer-run-requires c κs = search needs
+
+keep-requires : tie.Need-keep-requires Inv-loop μ-loop
+keep-requires c κs = search needs
+
+add-t : tie.Need-add-t Inv-loop μ-loop
+add-t c = search needs
+
+loop-less : tie.Need-loop-less Inv-loop μ-loop
+loop-less c = search needs
+
+loop-again : tie.Need-loop-again Inv-loop μ-loop
+loop-again c = search (seen-more, ltb-true)
+
+returns : tie.Need-returns Inv-loop μ-loop
+returns c = search (seen-text, ltb-false)
+
+returns-2 : tie.Need-returns-2 Inv-loop μ-loop
+returns-2 c = search (seen-pattern, ltb-false)
+
+pub row-search-spec : {M : Type 1} → statement M
+row-search-spec =
+    tie.close
+    (tie.spec
+    Inv-loop
+    μ-loop
+    loop-holds
+    add-if2
+    add-next-word
+    mul-next-word
+    shared-slice-read-next-word
+    next-word-requires
+    sub-at
+    mul-longer-run
+    sub-longer-run
+    part-longer-run-start
+    part-longer-run-end
+    longer-run-requires
+    keep-requires
+    add-t
+    loop-less
+    loop-again
+    returns
+    returns-2)
