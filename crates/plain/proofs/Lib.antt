@@ -1,1 +1,4 @@
 pub mod Scan
+pub mod View
+pub mod Fill
+pub mod Turn

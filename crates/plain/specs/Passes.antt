@@ -1,5 +1,5 @@
 -- What the steps of the plain engine hand on to one another. No reader of the engine's contract needs these.
-use Prim.Native.Nat.{ℕ, _≤_, _<_}
+use Prim.Native.Nat.{ℕ, _+_, _*_, _/_, _≤_, _<_}
 use mathlib.Core.Path.{_≡_}
 use mathlib.Core.List.{List}
 use lib.ListN.{length, getD}
@@ -43,3 +43,13 @@ pub record Listed (tiles : List Entry) (b b' : List ℕ) (k : Totals) : Type 0 w
   pub held : b' ≡ onto (tileWords tiles) b
   pub counted : k .count ≡ length tiles
   pub summed : k .covered ≡ covered tiles
+
+-- What the checks leave of the numbers: the lengths, the shorter of them, the minimum, and how many words the workspace and the tile
+-- buffer have.
+pub record Checked (n m shorter minimum workspace tiles : ℕ) : Type 0 where
+  pub short-first : n ≤ 2048
+  pub short-second : m ≤ 2048
+  pub least : 1 ≤ minimum
+  pub most : minimum ≤ 256
+  pub work-room : 4 * (n + m) ≤ workspace
+  pub tile-room : 3 * (shorter / minimum) ≤ tiles

@@ -6,19 +6,17 @@ use tile::PatternAt;
 use tile::TextAt;
 use tiling::Compared;
 ghost use mathlib.Core.Path.{_≡_};
-ghost use mathlib.Core.Bool.{true, false};
-ghost use mathlib.Core.List.{List, map};
-ghost use Prim.Native.Nat.{ℕ, _+_, _*_, _/_, _≤_, _<_};
-ghost use lib.ListN.{length, drop, getD};
-ghost use Rattle.buffer.specs.Buffer.{onto};
+ghost use mathlib.Core.List.{map};
+ghost use Prim.Native.Nat.{_+_, _≤_, _<_, min};
+ghost use lib.ListN.{length, drop};
 ghost use Rattle.tiling.specs.Tiling.{start, tiling};
-ghost use Rattle.tiling.specs.Listing.{tileWords, covered, listing};
+ghost use Rattle.tiling.specs.Listing.{listing};
 ghost use Rattle.tiling.specs.Comparing.{plainRefusal};
-ghost use Rattle.tiling.specs.Answer.{compared, tileBuffer, cleared};
+ghost use Rattle.tiling.specs.Answer.{Compares};
 ghost use Rattle.sweep.specs.Workspace.{Space, state};
 ghost use Rattle.sweep.specs.Row.{Row};
-ghost use Rattle.sweep.specs.Progress.{Fits, Sweeping, Onward};
-ghost use Rattle.plain.specs.Passes.{Scanned};
+ghost use Rattle.sweep.specs.Progress.{Sweeping, Onward, entry};
+ghost use Rattle.plain.specs.Passes.{Scanned, Filled, Ready, Finished, Listed, Checked};
 
 // The first position from `from` on that holds w, or the end.
 fn next_word(words: &[u32], from: usize, w: u32) -> usize
@@ -62,4 +60,165 @@ fn search_row(ws: &[u32], job: Job, p: PatternAt, floor: usize) -> Found
     let n = job.n;
     let end = n + job.m;
     row_search(&ws[from..n], &ws[n..end], floor)
+}
+
+// Sets the bound of each row to the length of its longest run, or to one below the minimum where that is greater.
+fn fill_bounds(ws: &mut [u32], job: Job)
+    requires { ⌜ Space job (now ws) × (1 ≤ job .minimum) × (job .minimum ≤ 256) ⌝ }
+    ensures { λ r. ⌜ Filled job (now (ws .entry)) (now (ws .exit)) ⌝ }
+{
+    let mut p = 0;
+    while p < job.n {
+        let found = search_row(ws, job, PatternAt(p), job.minimum - 1);
+        sweep::set_bound(ws, job, PatternAt(p), found.len);
+        p += 1;
+    }
+}
+
+// One row of a sweep: where its bound is the level it is searched again and settled.
+fn visit(
+    ws: &mut [u32],
+    job: Job,
+    level: usize,
+    p: PatternAt,
+    tiles: &mut [u32],
+    totals: Totals,
+) -> Totals
+    requires { ⌜ Sweeping job level (p .0) (now ws) (now tiles) totals × (p .0 < job .n) ⌝ }
+    ensures { λ r. ⌜ Sweeping job level (p .0 + 1) (now (ws .exit)) (now (tiles .exit)) r ⌝ }
+    ensures { λ r. ⌜ Onward job (now (ws .entry)) (now (tiles .entry)) totals (now (ws .exit)) (now (tiles .exit)) r ⌝ }
+{
+    if sweep::bound_of(ws, job, p) != level {
+        return totals;
+    }
+    let found = search_row(ws, job, p, job.minimum - 1);
+    sweep::settle(ws, job, level, p, found, tiles, totals)
+}
+
+// Goes through the rows in order and lays every tile of the level's length.
+fn sweep_rows(ws: &mut [u32], job: Job, level: usize, tiles: &mut [u32], totals: Totals) -> Totals
+    requires { ⌜ Sweeping job level 0 (now ws) (now tiles) totals ⌝ }
+    ensures { λ r. ⌜ Sweeping job level (job .n) (now (ws .exit)) (now (tiles .exit)) r ⌝ }
+    ensures { λ r. ⌜ Onward job (now (ws .entry)) (now (tiles .entry)) totals (now (ws .exit)) (now (tiles .exit)) r ⌝ }
+{
+    let mut sum = totals;
+    let mut p = 0;
+    while p < job.n {
+        sum = visit(ws, job, level, PatternAt(p), tiles, sum);
+        p += 1;
+    }
+    sum
+}
+
+// Lays the tiles of every length from the greatest bound down to the minimum.
+fn lay_all(ws: &mut [u32], job: Job, tiles: &mut [u32], totals: Totals) -> Totals
+    requires { ⌜ Ready job (now ws) (now tiles) totals ⌝ }
+    ensures { λ r. ⌜ Finished job (now (ws .entry)) (now (tiles .entry)) totals (now (ws .exit)) (now (tiles .exit)) r ⌝ }
+{
+    let mut sum = totals;
+    let mut level = sweep::greatest_bound(ws, job);
+    while job.minimum <= level {
+        sum = sweep_rows(ws, job, level, tiles, sum);
+        level = sweep::greatest_bound(ws, job);
+    }
+    sum
+}
+
+// Tiles a pattern and a text, which have been checked.
+fn tile_pair(
+    pattern: &[u32],
+    text: &[u32],
+    minimum: usize,
+    straight: bool,
+    ws: &mut [u32],
+    tiles: &mut [u32],
+) -> Totals
+    requires { ⌜ Checked (length (now pattern)) (length (now text)) (length (now pattern)) minimum (length (now ws)) (length (now tiles)) ⌝ }
+    ensures { λ r. ⌜ Listed (map (entry straight) (tiling minimum (start (now (pattern .entry)) (now (text .entry))))) (now (tiles .entry)) (now (tiles .exit)) r ⌝ }
+{
+    let job = Job {
+        n: pattern.len(),
+        m: text.len(),
+        minimum,
+        straight,
+    };
+    let none = Totals {
+        count: 0,
+        covered: 0,
+    };
+    sweep::copy_in(pattern, text, ws);
+    fill_bounds(ws, job);
+    lay_all(ws, job, tiles, none)
+}
+
+// Tiles two sequences, which have been checked. The shorter is the pattern; of equal lengths, the first.
+fn tile_sides(
+    first: &[u32],
+    second: &[u32],
+    minimum: usize,
+    ws: &mut [u32],
+    tiles: &mut [u32],
+) -> Totals
+    requires { ⌜ Checked (length (now first)) (length (now second)) (min (length (now first)) (length (now second))) minimum (length (now ws)) (length (now tiles)) ⌝ }
+    ensures { λ r. ⌜ Listed (listing (now (first .entry)) (now (second .entry)) minimum) (now (tiles .entry)) (now (tiles .exit)) r ⌝ }
+{
+    if first.len() <= second.len() {
+        return tile_pair(first, second, minimum, true, ws, tiles);
+    }
+    tile_pair(second, first, minimum, false, ws, tiles)
+}
+
+// Why a comparison is refused; 0 where it is not.
+fn plain_refusal(first: &[u32], second: &[u32], minimum: u32, workspace: usize, tiles: usize) -> u32
+    ensures { λ r. ⌜ r ≡ plainRefusal (now (first .entry)) (now (second .entry)) minimum workspace tiles ⌝ }
+{
+    let of_sequences = checks::sequences_refusal(first, second);
+    if of_sequences != 0 {
+        return of_sequences;
+    }
+    let of_minimum = checks::minimum_refusal(minimum);
+    if of_minimum != 0 {
+        return of_minimum;
+    }
+    checks::room_refusal(
+        first.len(),
+        second.len(),
+        minimum as usize,
+        workspace,
+        tiles,
+    )
+}
+
+// Compares two sequences by greedy string tiling with a minimum length of tiles. The tiles go to the start of the tile
+// buffer in the order laid, each as first start, second start and length; the answer has their number, how many words they
+// cover, and the score; the whole workspace is zero. Refused: 1 for more than 2,048 words, 2 for an unsound word, 3 for a
+// minimum outside 1 to 256, 6 for a workspace of fewer than 4 words for each word of both sequences, 7 for a tile buffer
+// too short; workspace and tile buffer are then as they were.
+pub fn compare(
+    first: &[u32],
+    second: &[u32],
+    minimum: u32,
+    workspace: &mut [u32],
+    tiles: &mut [u32],
+) -> Compared
+    ensures { λ r. ⌜ Compares (plainRefusal (now (first .entry)) (now (second .entry)) minimum (length (now (workspace .entry))) (length (now (tiles .entry)))) (now (first .entry)) (now (second .entry)) minimum (now (workspace .entry)) (now (tiles .entry)) r (now (workspace .exit)) (now (tiles .exit)) ⌝ }
+{
+    let refusal = plain_refusal(first, second, minimum, workspace.len(), tiles.len());
+    if refusal != 0 {
+        return Compared {
+            refusal,
+            tiles: 0,
+            covered: 0,
+            score: 0,
+        };
+    }
+    let sum = tile_sides(first, second, minimum as usize, workspace, tiles);
+    let words = workspace.len();
+    tile::mark_words(workspace, 0, words);
+    Compared {
+        refusal: 0,
+        tiles: sum.count as u32,
+        covered: sum.covered as u32,
+        score: tile::score_of(sum.covered, first.len() + second.len()),
+    }
 }

@@ -308,9 +308,9 @@ module _ (j : Job) (level p : ℕ) (ws b : List ℕ) (k : Totals) (f : Found) (s
                 record {
                   tiles = l .tiles ++ (next ∷ []);
                   rest = λ ls g. rw (append-assoc (l .tiles) (next ∷ []) ls) (l .rest (next ∷ ls) (lay-next ls g));
-                  held = e ∙ (rw (l .held, l .counted, map-append (entry j) (l .tiles) (next ∷ []), ← length-map (l .tiles) (entry j)) (listed-more (map (entry j) (l .tiles)) (entry j next ∷ []) b₀));
+                  held = e ∙ (rw (l .held, l .counted, map-append (entry (j .straight)) (l .tiles) (next ∷ []), ← length-map (l .tiles) (entry (j .straight))) (listed-more (map (entry (j .straight)) (l .tiles)) (entry (j .straight) next ∷ []) b₀));
                   counted = rw (length-append (l .tiles) (next ∷ []), l .counted) refl;
-                  summed = rw (map-append (entry j) (l .tiles) (next ∷ []), covered-append (map (entry j) (l .tiles)) (entry j next), ← l .summed) (one-more (j .straight));
+                  summed = rw (map-append (entry (j .straight)) (l .tiles) (next ∷ []), covered-append (map (entry (j .straight)) (l .tiles)) (entry (j .straight) next), ← l .summed) (one-more (j .straight));
                 };
           }
         where

@@ -1,6 +1,7 @@
 -- The state of a comparison under way, as the functions of the engines hand it on. No reader of the engines' contracts needs these.
 use Prim.Native.Nat.{ℕ, _+_, _*_, _/_, _≤_, _<_}
 use mathlib.Core.Path.{_≡_}
+use mathlib.Core.Bool.{Bool}
 use mathlib.Core.List.{List, _++_, map}
 use lib.ListN.{length, take, drop}
 use Rattle.symbol.specs.Word.{isCall}
@@ -25,18 +26,18 @@ pub record Fits (j : Job) (ws b : List ℕ) (k : Totals) : Type 0 where
   pub each : k .count * j .minimum ≤ k .covered
   pub free : k .covered + tally isCall (take (j .n) ws) ≤ j .n
 
--- A tile as it is listed.
-abbrev pub entry : Job → Tile → Entry
-entry j k = listed (j .straight) (k .p) (k .t) (k .len)
+-- A tile as it is listed: the pattern is the first sequence where straight is true, else the second.
+abbrev pub entry : Bool → Tile → Entry
+entry straight k = listed straight (k .p) (k .t) (k .len)
 
 -- Some tiles were laid from the state s₀ on and listed from the start of the buffer b₀ on: whatever the greedy choice lays from here,
 -- after them, is what it lays from s₀.
 pub record Laid (j : Job) (s₀ : State) (b₀ : List ℕ) (ws b : List ℕ) (k : Totals) : Type 0 where
   pub tiles : List Tile
   pub rest : (ls : List Tile) → Greedy best size lay (j .minimum) (state j ws) ls → Greedy best size lay (j .minimum) s₀ (tiles ++ ls)
-  pub held : b ≡ onto (tileWords (map (entry j) tiles)) b₀
+  pub held : b ≡ onto (tileWords (map (entry (j .straight)) tiles)) b₀
   pub counted : k .count ≡ length tiles
-  pub summed : k .covered ≡ covered (map (entry j) tiles)
+  pub summed : k .covered ≡ covered (map (entry (j .straight)) tiles)
 
 -- What was laid before is laid after, with more tiles at its end.
 pub record Onward (j : Job) (ws b : List ℕ) (k : Totals) (ws' b' : List ℕ) (k' : Totals) : Type 0 where

@@ -4,19 +4,12 @@
 use Prim.Native.Nat.{ℕ, _+_, _≤_, _^_}
 use native.Mathlib.Omega.{arith}
 use mathlib.Core.Path.{_≡_, refl, sym, _∙_, ap}
-use mathlib.Core.Bool.{not}
 use mathlib.Core.List.{List, [], _∷_, _++_, map}
-use borrow.Author.Tests.{eqb-false}
-use lib.Dec.{eqb, ltb}
 use lib.ListN.{length, drop, replicate}
-use Rattle.symbol.specs.Sequence.{allSound, tooLong}
-use Rattle.symbol.specs.Refusal.{refuse}
-use Rattle.symbol.proofs.Refusal.{clear}
 use Rattle.buffer.specs.Buffer.{onto}
 use Rattle.tiling.specs.Each.{Each, Pairs}
 use Rattle.tiling.specs.Listing.{Entry, listing, tileWords, covered, score}
 use Rattle.tiling.specs.declared.Compared.{Compared}
-use Rattle.tiling.specs.Comparing.{sequences, minimums, plainRefusal, fastRefusal}
 use Rattle.tiling.specs.Answer.{compared, Compares}
 use Rattle.tiling.specs.Demand.{FreeRun, Stands, Apart, onFirst, onSecond, long, smallerCounts, exchanged, tilesIn, listed, Tiled, Exchanges}
 use Rattle.tiling.proofs.Demand.{listing-tiled, exchange, exchange-count, exchange-covered, exchange-score}
@@ -94,22 +87,3 @@ answers-exchange {first = first} {second = second} {minimum = minimum} c c' z z'
       covered = rw (answer-is c z, answer-is c' z') (exchange-covered first second minimum d);
       score = rw (answer-is c z, answer-is c' z') (exchange-score first second minimum d);
     }
-
--- ---- an accepted comparison has a minimum of 1 or more
-sequences-clear : (first second : List ℕ) (later : ℕ) → sequences first second later ≡ 0 → later ≡ 0
-sequences-clear first second later e =
-    let a = clear (tooLong first) 1 (refuse (tooLong second) 1 (refuse (not (allSound first)) 2 (refuse (not (allSound second)) 2 later))) (omega arith) e in
-    let b = clear (tooLong second) 1 (refuse (not (allSound first)) 2 (refuse (not (allSound second)) 2 later)) (omega arith) (a .rest) in
-    let c = clear (not (allSound first)) 2 (refuse (not (allSound second)) 2 later) (omega arith) (b .rest) in
-    clear (not (allSound second)) 2 later (omega arith) (c .rest) .rest
-
-minimums-clear : (minimum later : ℕ) → minimums minimum later ≡ 0 → 1 ≤ minimum
-minimums-clear minimum later e =
-    let r = clear (eqb minimum 0) 3 (refuse (ltb 256 minimum) 3 later) (omega arith) e in
-    omega (arith, eqb-false minimum 0 (r .first))
-
-pub plain-minimum : (first second : List ℕ) (minimum workspace tiles : ℕ) → plainRefusal first second minimum workspace tiles ≡ 0 → 1 ≤ minimum
-plain-minimum first second minimum workspace tiles e = minimums-clear minimum _ (sequences-clear first second _ e)
-
-pub fast-minimum : (first second : List ℕ) (minimum buckets begin workspace tiles : ℕ) → fastRefusal first second minimum buckets begin workspace tiles ≡ 0 → 1 ≤ minimum
-fast-minimum first second minimum buckets begin workspace tiles e = minimums-clear minimum _ (sequences-clear first second _ e)

@@ -12,3 +12,4 @@ pub mod Left
 pub mod Codes
 pub mod Demand
 pub mod Answers
+pub mod Comparing

@@ -1,0 +1,72 @@
+-- The turns of a sweep and of the levels. Contracts of the steps go from entry to exit and follow one another.
+-- Assumes nothing.
+use Prim.Native.Nat.{ℕ, _+_, _-_, _≤_, _<_}
+use native.Mathlib.Decide.{decLt, ℕ-discrete}
+use native.Mathlib.Nat.{not-suc-le-zero}
+use native.Mathlib.Omega.{arith}
+use mathlib.Core.Path.{_≡_, refl, sym, _∙_, subst}
+use mathlib.Core.List.{List}
+use lib.ListN.{length, drop}
+use Rattle.sweep.specs.Workspace.{Space, state, bound}
+use Rattle.sweep.specs.Row.{Row, Greatest}
+use Rattle.sweep.specs.Progress.{Fits, Bounded, Onward, Sweeping, Searched}
+use Rattle.sweep.specs.declared.Job.{Job}
+use Rattle.sweep.specs.declared.Found.{Found}
+use Rattle.sweep.specs.declared.Totals.{Totals}
+use Rattle.tiling.specs.Tiling.{runAt, best}
+use Rattle.tiling.proofs.Best.{best-is}
+use Rattle.sweep.proofs.Step.{below-level}
+use Rattle.plain.specs.Passes.{Upper, Ready, Finished}
+
+pub onward-none : (j : Job) (ws b : List ℕ) (k : Totals) → Onward j ws b k ws b k
+onward-none j ws b k = record { keeps = λ s₀ b₀ l. l }
+
+pub onward-more : (j : Job) (ws₀ b₀ ws b ws' b' : List ℕ) (k₀ k k' : Totals) → Onward j ws₀ b₀ k₀ ws b k → Onward j ws b k ws' b' k' → Onward j ws₀ b₀ k₀ ws' b' k'
+onward-more j ws₀ b₀ ws b ws' b' k₀ k k' x y = record { keeps = λ s c l. y .keeps s c (x .keeps s c l) }
+
+-- ---- a row
+module _ (j : Job) (level p : ℕ) (ws b : List ℕ) (k : Totals) (s : Sweeping j level p ws b k) (inside : p < j .n) where
+  -- A row whose bound is not the level is below it.
+  pub row-below : (r : ℕ) → r ≡ bound j ws p → (r ≡ level → ⊥) → Sweeping j level (p + 1) ws b k
+  row-below r e d =
+      record {
+        fits = s .fits;
+        bounded = record { upper = s .bounded .upper; capped = s .bounded .capped; passed = λ q h. passed q h (ℕ-discrete q p) };
+        long = s .long;
+        within = omega arith;
+      }
+    where
+      passed : (q : ℕ) → q < p + 1 → Dec (q ≡ p) → bound j ws q < level
+      passed q h (yes q≡p) = rw q≡p (omega (arith, s .bounded .capped p inside, e, d))
+      passed q h (no n) = s .bounded .passed q (omega (arith, n))
+
+  pub row-searched : (f : Found) → Row (drop p (state j ws .pattern)) (state j ws .text) (j .minimum - 1) f → Searched j ws level p f
+  row-searched f r =
+      record {
+        floor = j .minimum - 1;
+        low = omega (arith, s .fits .most);
+        below = omega (arith, s .fits .least, s .long);
+        row = r;
+      }
+
+-- ---- a sweep
+pub record Swept (j : Job) (level : ℕ) (ws₀ b₀ : List ℕ) (k₀ : Totals) (ws b : List ℕ) (k : Totals) (p : ℕ) : Type 0 where
+  pub sweeping : Sweeping j level p ws b k
+  pub onward : Onward j ws₀ b₀ k₀ ws b k
+  pub same-room : length ws ≡ length ws₀
+  pub same-tiles : length b ≡ length b₀
+
+pub swept-none : (j : Job) (level : ℕ) (ws b : List ℕ) (k : Totals) → Sweeping j level 0 ws b k → Swept j level ws b k ws b k 0
+swept-none j level ws b k s = record { sweeping = s; onward = onward-none j ws b k; same-room = refl; same-tiles = refl }
+
+pub swept-more : (j : Job) (level : ℕ) (ws₀ b₀ ws b ws' b' : List ℕ) (k₀ k k' : Totals) (p : ℕ) → Swept j level ws₀ b₀ k₀ ws b k p → Sweeping j level (p + 1) ws' b' k' → Onward j ws b k ws' b' k' → length ws' ≡ length ws → length b' ≡ length b → Swept j level ws₀ b₀ k₀ ws' b' k' (p + 1)
+swept-more j level ws₀ b₀ ws b ws' b' k₀ k k' p s x y v w =
+    record {
+      sweeping = x;
+      onward = onward-more j ws₀ b₀ ws b ws' b' k₀ k k' (s .onward) y;
+      same-room = v ∙ s .same-room;
+      same-tiles = w ∙ s .same-tiles;
+    }
+
+pub swept-all : (j : Job) (level : ℕ) (ws b : List ℕ) (k : Totals) (p : ℕ) → Sweeping j level p ws b k → j .n ≤ p → Sweeping j level (j .n) ws b k
+swept-all j level ws b k p s h = let e : p ≡ j .n = omega (arith, s .within) in rw e at s
