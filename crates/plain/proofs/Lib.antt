@@ -2,3 +2,4 @@ pub mod Scan
 pub mod View
 pub mod Fill
 pub mod Turn
+pub mod Pair

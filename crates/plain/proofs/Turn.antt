@@ -70,3 +70,49 @@ swept-more j level ws₀ b₀ ws b ws' b' k₀ k k' p s x y v w =
 
 pub swept-all : (j : Job) (level : ℕ) (ws b : List ℕ) (k : Totals) (p : ℕ) → Sweeping j level p ws b k → j .n ≤ p → Sweeping j level (j .n) ws b k
 swept-all j level ws b k p s h = let e : p ≡ j .n = omega (arith, s .within) in rw e at s
+
+-- ---- the levels
+pub record Level (j : Job) (ws₀ b₀ : List ℕ) (k₀ : Totals) (ws b : List ℕ) (k : Totals) (level : ℕ) : Type 0 where
+  pub ready : Ready j ws b k
+  pub greatest : Greatest (bound j ws) (j .n) level
+  pub onward : Onward j ws₀ b₀ k₀ ws b k
+  pub same-room : length ws ≡ length ws₀
+  pub same-tiles : length b ≡ length b₀
+
+pub level-none : (j : Job) (ws b : List ℕ) (k : Totals) (level : ℕ) → Ready j ws b k → Greatest (bound j ws) (j .n) level → Level j ws b k ws b k level
+level-none j ws b k level r g = record { ready = r; greatest = g; onward = onward-none j ws b k; same-room = refl; same-tiles = refl }
+
+-- No bound exceeds the greatest, so a sweep can begin.
+pub level-sweep : (j : Job) (ws b : List ℕ) (k : Totals) (level : ℕ) → Ready j ws b k → Greatest (bound j ws) (j .n) level → j .minimum ≤ level → Sweeping j level 0 ws b k
+level-sweep j ws b k level r g h =
+    record {
+      fits = r .fits;
+      bounded = record { upper = r .upper; capped = g .most; passed = λ q l. absurd (not-suc-le-zero l) };
+      long = h;
+      within = omega arith;
+    }
+
+module _ (j : Job) (level : ℕ) (ws' b' : List ℕ) (k' : Totals) (s : Sweeping j level (j .n) ws' b' k') (next : ℕ) (g : Greatest (bound j ws') (j .n) next) where
+  -- After a sweep every bound is below the level.
+  pub level-less : next < level
+  level-less = g .least level (omega (arith, s .fits .least, s .long)) (λ q h. s .bounded .passed q h)
+
+  pub level-more : (ws₀ b₀ ws b : List ℕ) (k₀ k : Totals) → Level j ws₀ b₀ k₀ ws b k level → Onward j ws b k ws' b' k' → length ws' ≡ length ws → length b' ≡ length b → Level j ws₀ b₀ k₀ ws' b' k' next
+  level-more ws₀ b₀ ws b k₀ k l o v w =
+      record {
+        ready = record { fits = s .fits; upper = s .bounded .upper };
+        greatest = g;
+        onward = onward-more j ws₀ b₀ ws b ws' b' k₀ k k' (l .onward) o;
+        same-room = v ∙ l .same-room;
+        same-tiles = w ∙ l .same-tiles;
+      }
+
+-- Below the minimum nothing long enough is left.
+pub level-done : (j : Job) (ws₀ b₀ : List ℕ) (k₀ : Totals) (ws b : List ℕ) (k : Totals) (level : ℕ) → Level j ws₀ b₀ k₀ ws b k level → level < j .minimum → Finished j ws₀ b₀ k₀ ws b k
+level-done j ws₀ b₀ k₀ ws b k level l h =
+    let s = state j ws in
+    let none : Bounded j ws level 0 = record { upper = l .ready .upper; capped = l .greatest .most; passed = λ q m. absurd (not-suc-le-zero m) } in
+    record {
+      onward = l .onward;
+      short = omega (arith, best-is s .long, below-level j ws level 0 (l .ready .fits .space) none (best s .p) (best s .t));
+    }

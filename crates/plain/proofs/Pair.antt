@@ -1,0 +1,117 @@
+-- From an empty list of tiles to the whole tiling. Pattern and text are copied to the start of the workspace, so the first state is theirs;
+-- nothing as long as the minimum is left at the end, so what was laid is what the greedy choice lays, and that is the tiling.
+-- Assumes nothing.
+use Prim.Native.Nat.{ℕ, _+_, _*_, _/_, _≤_, _<_, min}
+use native.Mathlib.Omega.{arith}
+use mathlib.Core.Path.{_≡_, refl, sym, _∙_, ap, subst}
+use mathlib.Core.Bool.{Bool, true, false}
+use mathlib.Core.List.{List, [], _∷_, _++_, map, append-assoc, append-nil}
+use borrow.Author.Tests.{le-leb, lt-leb}
+use lib.ListN.{length, take, drop, length-take, length-map}
+use lib.Seq.{take-at, drop-at}
+use Rattle.symbol.specs.Word.{isCall}
+use Rattle.buffer.specs.Buffer.{onto}
+use Rattle.tiling.specs.Tiling.{Tile, State, start, best, size, lay, tiling}
+use Rattle.tiling.specs.Listing.{Entry, firstIsPattern, listing, tileWords, covered}
+use Rattle.tiling.specs.Tally.{tally}
+use Rattle.tiling.proofs.Tally.{tally-length}
+use Rattle.tiling.proofs.Greedy.{Greedy, done, only}
+use Rattle.tiling.proofs.Tiling.{tiling-greedy}
+use Rattle.sweep.specs.Workspace.{Space, state}
+use Rattle.sweep.specs.Progress.{Fits, Laid, entry}
+use Rattle.sweep.specs.declared.Job.{Job}
+use Rattle.sweep.specs.declared.Totals.{Totals}
+use Rattle.plain.specs.Passes.{Filled, Ready, Finished, Listed, Checked}
+
+-- ---- the start
+module _ (pattern text : List ℕ) (minimum : ℕ) (straight : Bool) where
+  abbrev pub job : Job
+  job = record { n = length pattern; m = length text; minimum = minimum; straight = straight }
+
+  -- The first state is that of the two sequences.
+  copied-state : (ws : List ℕ) → state job (onto (pattern ++ text) ws) ≡ start pattern text
+  copied-state ws = λ i. record { pattern = on-pattern i; text = on-text i }
+    where
+      rest : List ℕ
+      rest = drop (length (pattern ++ text)) ws
+
+      whole : (pattern ++ text) ++ rest ≡ pattern ++ (text ++ rest)
+      whole = append-assoc pattern text rest
+
+      on-pattern : take (length pattern) (onto (pattern ++ text) ws) ≡ pattern
+      on-pattern = rw whole (take-at pattern (text ++ rest) (length pattern) refl)
+
+      on-text : take (length text) (drop (length pattern) (onto (pattern ++ text) ws)) ≡ text
+      on-text = rw (whole, drop-at pattern (text ++ rest) (length pattern) refl) (take-at text rest (length text) refl)
+
+  module _ (ws b ws₁ ws₂ : List ℕ) (c : Checked (length pattern) (length text) (length pattern) minimum (length ws) (length b)) (copied : ws₁ ≡ onto (pattern ++ text) ws) (f : Filled job ws₁ ws₂) where
+    pub pair-ready : Ready job ws₂ b (record { count = 0; covered = 0 })
+    pair-ready =
+        record {
+          fits =
+              record {
+                space = f .space;
+                least = c .least;
+                most = c .most;
+                tile-room = c .tile-room;
+                each = omega arith;
+                free = omega (arith, tally-length isCall (take (length pattern) ws₂), length-take (length pattern) ws₂);
+              };
+          upper = f .upper;
+        }
+
+    first-state : state job ws₂ ≡ start pattern text
+    first-state = f .same ∙ (ap (λ x. state job x) copied ∙ copied-state ws)
+
+    nothing-laid : Laid job (start pattern text) b ws₂ b (record { count = 0; covered = 0 })
+    unfolding tileWords covered
+    nothing-laid =
+        record {
+          tiles = [];
+          rest = λ ls g. subst (λ u. Greedy best size lay minimum u ls) first-state g;
+          held = refl;
+          counted = refl;
+          summed = refl;
+        }
+
+    -- ---- the end
+    pub pair-listed : (ws₃ b' : List ℕ) (k : Totals) → Finished job ws₂ b (record { count = 0; covered = 0 }) ws₃ b' k → Listed (map (entry straight) (tiling minimum (start pattern text))) b b' k
+    pair-listed ws₃ b' k e =
+        let l = e .onward .keeps (start pattern text) b nothing-laid in
+        let g : Greedy best size lay minimum (start pattern text) (l .tiles ++ []) = l .rest [] (done (e .short)) in
+        let t : l .tiles ≡ tiling minimum (start pattern text) =
+        sym (append-nil (l .tiles)) ∙ only g (tiling-greedy minimum (c .least) (start pattern text)) in
+        record {
+          held = rw (← t) (l .held);
+          counted = rw (← t) (l .counted ∙ sym (length-map (l .tiles) (entry straight)));
+          summed = rw (← t) (l .summed);
+        }
+
+-- ---- which sequence is the pattern
+module _ (first second : List ℕ) (minimum workspace : ℕ) (b : List ℕ) (c : Checked (length first) (length second) (min (length first) (length second)) minimum workspace (length b)) where
+  module _ (shorter : length first ≤ length second) where
+    pub first-checked : Checked (length first) (length second) (length first) minimum workspace (length b)
+    first-checked =
+        let e : min (length first) (length second) ≡ length first = omega arith in
+        rw e at c
+
+    pub first-listed : (b' : List ℕ) (k : Totals) → Listed (map (entry true) (tiling minimum (start first second))) b b' k → Listed (listing first second minimum) b b' k
+    unfolding listing firstIsPattern
+    first-listed b' k l = rw (listing, le-leb (length first) (length second) shorter) l
+
+  module _ (longer : length second < length first) where
+    pub second-checked : Checked (length second) (length first) (length second) minimum workspace (length b)
+    second-checked =
+        let e : min (length first) (length second) ≡ length second = omega arith in
+        record {
+          short-first = c .short-second;
+          short-second = c .short-first;
+          least = c .least;
+          most = c .most;
+          work-room = omega (arith, c .work-room);
+          tile-room = rw (← e) (c .tile-room);
+        }
+
+    pub second-listed : (b' : List ℕ) (k : Totals) → Listed (map (entry false) (tiling minimum (start second first))) b b' k → Listed (listing first second minimum) b b' k
+    unfolding listing firstIsPattern
+    second-listed b' k l = rw (listing, lt-leb (length first) (length second) longer) l
