@@ -2,6 +2,7 @@
 // has the work, and none asks anything of its caller: what cannot be done is refused by its number.
 use record::ReadAnswer;
 use symbol::Counted;
+use tiling::Compared;
 ghost use mathlib.Core.Path.{_≡_};
 ghost use lib.ListN.{length};
 ghost use Rattle.symbol.specs.Word.{matches};
@@ -9,6 +10,8 @@ ghost use Rattle.symbol.specs.Sequence.{allSound};
 ghost use Rattle.record.specs.Reading.{readAnswer, readBuffer};
 ghost use Rattle.record.specs.Writing.{writeAnswer, writeBuffer};
 ghost use Rattle.window.specs.HashList.{hashAnswer, hashBuffer};
+ghost use Rattle.tiling.specs.Comparing.{plainRefusal};
+ghost use Rattle.tiling.specs.Answer.{Compares};
 
 // Whether two words match: both are calls with equal codes.
 #[no_mangle]
@@ -56,4 +59,19 @@ pub extern "C" fn sigxume_hash_list(
     ensures { λ r. ⌜ now (buffer .exit) ≡ hashBuffer (now (words .entry)) multiplier window (now (buffer .entry)) ⌝ }
 {
     window::hash_list(words, multiplier, window, buffer)
+}
+
+// Compares two sequences by greedy string tiling, without a hash. The tiles go to the start of the tile buffer, and the whole
+// workspace is zero after it. Refused: 1, 2, 3, 6, 7.
+#[no_mangle]
+pub extern "C" fn sigxume_compare_plain(
+    first: &[u32],
+    second: &[u32],
+    minimum: u32,
+    workspace: &mut [u32],
+    tiles: &mut [u32],
+) -> Compared
+    ensures { λ r. ⌜ Compares (plainRefusal (now (first .entry)) (now (second .entry)) minimum (length (now (workspace .entry))) (length (now (tiles .entry)))) (now (first .entry)) (now (second .entry)) minimum (now (workspace .entry)) (now (tiles .entry)) r (now (workspace .exit)) (now (tiles .exit)) ⌝ }
+{
+    plain::compare(first, second, minimum, workspace, tiles)
 }

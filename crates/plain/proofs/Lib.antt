@@ -3,3 +3,4 @@ pub mod View
 pub mod Fill
 pub mod Turn
 pub mod Pair
+pub mod Outcome

@@ -1,24 +1,24 @@
 -- From an empty list of tiles to the whole tiling. Pattern and text are copied to the start of the workspace, so the first state is theirs;
 -- nothing as long as the minimum is left at the end, so what was laid is what the greedy choice lays, and that is the tiling.
 -- Assumes nothing.
-use Prim.Native.Nat.{ℕ, _+_, _*_, _/_, _≤_, _<_, min}
+use Prim.Native.Nat.{ℕ, _+_, _≤_, _<_, min}
 use native.Mathlib.Omega.{arith}
 use mathlib.Core.Path.{_≡_, refl, sym, _∙_, ap, subst}
 use mathlib.Core.Bool.{Bool, true, false}
-use mathlib.Core.List.{List, [], _∷_, _++_, map, append-assoc, append-nil}
+use mathlib.Core.List.{List, [], _++_, map, append-assoc, append-nil}
 use borrow.Author.Tests.{le-leb, lt-leb}
 use lib.ListN.{length, take, drop, length-take, length-map}
 use lib.Seq.{take-at, drop-at}
 use Rattle.symbol.specs.Word.{isCall}
 use Rattle.buffer.specs.Buffer.{onto}
-use Rattle.tiling.specs.Tiling.{Tile, State, start, best, size, lay, tiling}
-use Rattle.tiling.specs.Listing.{Entry, firstIsPattern, listing, tileWords, covered}
+use Rattle.tiling.specs.Tiling.{start, best, size, lay, tiling}
+use Rattle.tiling.specs.Listing.{firstIsPattern, listing, tileWords, covered}
 use Rattle.tiling.specs.Tally.{tally}
 use Rattle.tiling.proofs.Tally.{tally-length}
 use Rattle.tiling.proofs.Greedy.{Greedy, done, only}
 use Rattle.tiling.proofs.Tiling.{tiling-greedy}
-use Rattle.sweep.specs.Workspace.{Space, state}
-use Rattle.sweep.specs.Progress.{Fits, Laid, entry}
+use Rattle.sweep.specs.Workspace.{state}
+use Rattle.sweep.specs.Progress.{Laid, entry}
 use Rattle.sweep.specs.declared.Job.{Job}
 use Rattle.sweep.specs.declared.Totals.{Totals}
 use Rattle.plain.specs.Passes.{Filled, Ready, Finished, Listed, Checked}

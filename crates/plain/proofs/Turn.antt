@@ -1,22 +1,22 @@
 -- The turns of a sweep and of the levels. Contracts of the steps go from entry to exit and follow one another.
 -- Assumes nothing.
 use Prim.Native.Nat.{ℕ, _+_, _-_, _≤_, _<_}
-use native.Mathlib.Decide.{decLt, ℕ-discrete}
+use native.Mathlib.Decide.{ℕ-discrete}
 use native.Mathlib.Nat.{not-suc-le-zero}
 use native.Mathlib.Omega.{arith}
-use mathlib.Core.Path.{_≡_, refl, sym, _∙_, subst}
+use mathlib.Core.Path.{_≡_, refl, _∙_}
 use mathlib.Core.List.{List}
 use lib.ListN.{length, drop}
-use Rattle.sweep.specs.Workspace.{Space, state, bound}
+use Rattle.sweep.specs.Workspace.{state, bound}
 use Rattle.sweep.specs.Row.{Row, Greatest}
-use Rattle.sweep.specs.Progress.{Fits, Bounded, Onward, Sweeping, Searched}
+use Rattle.sweep.specs.Progress.{Bounded, Onward, Sweeping, Searched}
 use Rattle.sweep.specs.declared.Job.{Job}
 use Rattle.sweep.specs.declared.Found.{Found}
 use Rattle.sweep.specs.declared.Totals.{Totals}
-use Rattle.tiling.specs.Tiling.{runAt, best}
+use Rattle.tiling.specs.Tiling.{best}
 use Rattle.tiling.proofs.Best.{best-is}
 use Rattle.sweep.proofs.Step.{below-level}
-use Rattle.plain.specs.Passes.{Upper, Ready, Finished}
+use Rattle.plain.specs.Passes.{Ready, Finished}
 
 pub onward-none : (j : Job) (ws b : List ℕ) (k : Totals) → Onward j ws b k ws b k
 onward-none j ws b k = record { keeps = λ s₀ b₀ l. l }

@@ -1,11 +1,11 @@
 -- The parts of the workspace that a search reads.
 -- Assumes nothing.
-use Prim.Native.Nat.{ℕ, zero, suc, _+_, _-_, _≤_, _<_}
+use Prim.Native.Nat.{ℕ, zero, suc, _+_, _-_}
 use native.Mathlib.Omega.{arith}
-use mathlib.Core.Path.{_≡_, refl, sym, _∙_, subst}
+use mathlib.Core.Path.{_≡_, refl}
 use mathlib.Core.List.{List, [], _∷_}
 use lib.ListN.{take, drop}
-use lib.Seq.{take-nil, drop-nil}
+use lib.Seq.{take-nil}
 use Rattle.sweep.specs.Workspace.{state}
 use Rattle.sweep.specs.Row.{Row}
 use Rattle.sweep.specs.declared.Job.{Job}

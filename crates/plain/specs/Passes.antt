@@ -4,7 +4,7 @@ use mathlib.Core.Path.{_≡_}
 use mathlib.Core.List.{List}
 use lib.ListN.{length, getD}
 use Rattle.buffer.specs.Buffer.{onto}
-use Rattle.tiling.specs.Tiling.{State, runAt, best}
+use Rattle.tiling.specs.Tiling.{runAt, best}
 use Rattle.tiling.specs.Listing.{Entry, tileWords, covered}
 use Rattle.sweep.specs.Workspace.{Space, state, bound}
 use Rattle.sweep.specs.Progress.{Fits, Onward}

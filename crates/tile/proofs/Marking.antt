@@ -6,7 +6,7 @@ use native.Mathlib.Omega.{arith}
 use native.Mathlib.Numerals.{add-one}
 use mathlib.Core.Path.{_≡_, refl, _∙_, ap}
 use mathlib.Core.List.{List, [], _∷_}
-use lib.ListN.{length, take, drop, set}
+use lib.ListN.{length, take, drop, set, replicate}
 use lib.Seq.{take-nil, drop-nil}
 use Rattle.tiling.specs.Run.{mark}
 use Rattle.tiling.proofs.Run.{length-mark}
@@ -25,6 +25,12 @@ mark-more i n [] = refl
 mark-more (suc i) n (x ∷ xs) = let e : suc i + n ≡ suc (i + n) = omega arith in rw e (ap (λ ys. x ∷ ys) (mark-more i n xs))
 mark-more zero zero (x ∷ xs) = rw (mark-none 0 xs) refl
 mark-more zero (suc n) (x ∷ xs) = let e : 0 + suc n ≡ suc (0 + n) = omega arith in rw e (ap (λ ys. 0 ∷ ys) (mark-more zero n xs))
+
+-- Every word marked.
+pub mark-all : (xs : List ℕ) → mark 0 (length xs) xs ≡ replicate (length xs) 0
+unfolding mark
+mark-all [] = refl
+mark-all (x ∷ xs) = ap (λ ys. 0 ∷ ys) (mark-all xs)
 
 -- ---- marking and the parts of a list
 -- A stretch within the front, past it, before the tail, and within the tail.
