@@ -4,3 +4,4 @@ pub mod Fill
 pub mod Turn
 pub mod Pair
 pub mod Outcome
+pub mod Laws

@@ -66,7 +66,7 @@ returns : tie.Need-returns Inv-loop μ-loop
 returns c = search (seen-text, ltb-false)
 
 returns-2 : tie.Need-returns-2 Inv-loop μ-loop
-returns-2 c = search (seen-pattern, ltb-false)
+returns-2 c = search seen-pattern
 
 pub row-search-spec : {M : Type 1} → statement M
 row-search-spec =

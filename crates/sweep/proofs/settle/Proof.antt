@@ -7,7 +7,7 @@ use Rattle.sweep.proofs.settle.Statement.{statement}
 use Rattle.sweep.proofs.settle.Tie as tie
 
 set-bound-requires : tie.Need-set-bound-requires
-set-bound-requires c κs = (search needs, search needs, search found-small)
+set-bound-requires c κs = (search needs, search needs, search (found-small, needs))
 
 same-length : tie.Need-same-length
 same-length c = search needs

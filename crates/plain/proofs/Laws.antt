@@ -1,0 +1,38 @@
+-- What demand 3 says of the plain engine's own answers: its contract is `Compares` with its refusal's number, and an accepted comparison has
+-- a minimum of 1 or more, so the laws of the tiling hold of the tiles in its buffer.
+-- Assumes nothing.
+use Prim.Native.Nat.{ℕ, _≤_, _^_}
+use mathlib.Core.Path.{_≡_}
+use mathlib.Core.List.{List}
+use lib.ListN.{length}
+use Rattle.tiling.specs.Comparing.{plainRefusal}
+use Rattle.tiling.specs.Answer.{Compares}
+use Rattle.tiling.specs.Demand.{FreeRun, smallerCounts, listed, Tiled, Exchanges}
+use Rattle.tiling.specs.declared.Compared.{Compared}
+use Rattle.tiling.proofs.Comparing.{plain-minimum}
+use Rattle.tiling.proofs.Answers.{answers-number, answers-tiled, answers-no-free-run, answers-at-one, answers-exchange}
+
+-- What a call of the engine promises.
+abbrev pub Plain : List ℕ → List ℕ → ℕ → List ℕ → List ℕ → Compared → List ℕ → List ℕ → Type 0
+Plain first second minimum ws b a ws' b' = Compares (plainRefusal first second minimum (length ws) (length b)) first second minimum ws b a ws' b'
+
+module _ {first second : List ℕ} {minimum : ℕ} {ws b : List ℕ} {a : Compared} {ws' b' : List ℕ} (c : Plain first second minimum ws b a ws' b') (accepted : a .refusal ≡ 0) where
+  least : 1 ≤ minimum
+  least = plain-minimum first second minimum (length ws) (length b) (answers-number c accepted)
+
+  -- The tiles listed lie in both sequences, match, have at least the minimum, never rise in length and never overlap; what they cover is
+  -- at most each length.
+  pub plain-tiled : Tiled first second minimum (listed a b')
+  plain-tiled = answers-tiled c accepted least
+
+  -- No matching run of the minimum length is free on both.
+  pub plain-no-free-run : (i j : ℕ) → FreeRun first second (listed a b') minimum i j → ⊥
+  plain-no-free-run = answers-no-free-run c accepted least
+
+  -- At minimum 1 covered is the sum, over all codes, of the smaller number of calls.
+  pub plain-at-one : minimum ≡ 1 → a .covered ≡ smallerCounts (2 ^ 16) first second
+  plain-at-one = answers-at-one c accepted
+
+-- Where the lengths differ, exchanging the sequences only exchanges the sides of each tile.
+pub plain-exchange : {first second : List ℕ} {minimum : ℕ} {ws b ws₁ b₁ : List ℕ} {a a' : Compared} {ws' b' ws₁' b₁' : List ℕ} → Plain first second minimum ws b a ws' b' → Plain second first minimum ws₁ b₁ a' ws₁' b₁' → a .refusal ≡ 0 → a' .refusal ≡ 0 → (length first ≡ length second → ⊥) → Exchanges a b' a' b₁'
+plain-exchange c c' = answers-exchange c c'
