@@ -22,7 +22,7 @@ cast-t19 : tie.Need-cast-t19
 cast-t19 c = search count-fits
 
 cast-t20 : tie.Need-cast-t20
-cast-t20 c = search (covered-fits, count-fits)
+cast-t20 c = search covered-fits
 
 add-score-of : tie.Need-add-score-of
 add-score-of c = search needs
