@@ -7,10 +7,11 @@ use mathlib.Core.List.{List}
 use lib.ListN.{length}
 use Rattle.tiling.specs.Comparing.{plainRefusal}
 use Rattle.tiling.specs.Answer.{Compares}
-use Rattle.tiling.specs.Demand.{FreeRun, smallerCounts, listed, Tiled, Exchanges}
+use Rattle.tiling.specs.Greedy.{Begins}
+use Rattle.tiling.specs.Demand.{long, FreeRun, smallerCounts, listed, Tiled, Exchanges}
 use Rattle.tiling.specs.declared.Compared.{Compared}
 use Rattle.tiling.proofs.Comparing.{plain-minimum}
-use Rattle.tiling.proofs.Answers.{answers-number, answers-tiled, answers-no-free-run, answers-at-one, answers-exchange}
+use Rattle.tiling.proofs.Answers.{answers-number, answers-tiled, answers-no-free-run, answers-at-one, answers-exchange, answers-begin}
 
 -- What a call of the engine promises.
 abbrev pub Plain : List ℕ → List ℕ → ℕ → List ℕ → List ℕ → Compared → List ℕ → List ℕ → Type 0
@@ -36,3 +37,7 @@ module _ {first second : List ℕ} {minimum : ℕ} {ws b : List ℕ} {a : Compar
 -- Where the lengths differ, exchanging the sequences only exchanges the sides of each tile.
 pub plain-exchange : {first second : List ℕ} {minimum : ℕ} {ws b ws₁ b₁ : List ℕ} {a a' : Compared} {ws' b' ws₁' b₁' : List ℕ} → Plain first second minimum ws b a ws' b' → Plain second first minimum ws₁ b₁ a' ws₁' b₁' → a .refusal ≡ 0 → a' .refusal ≡ 0 → (length first ≡ length second → ⊥) → Exchanges a b' a' b₁'
 plain-exchange c c' = answers-exchange c c'
+
+-- The tiles at a greater minimum are the first of those at a smaller one, and the others are shorter than it.
+pub plain-begin : {first second : List ℕ} {minimum longer : ℕ} {ws b ws₁ b₁ : List ℕ} {a a' : Compared} {ws' b' ws₁' b₁' : List ℕ} → Plain first second minimum ws b a ws' b' → Plain first second longer ws₁ b₁ a' ws₁' b₁' → a .refusal ≡ 0 → a' .refusal ≡ 0 → minimum ≤ longer → Begins long longer (listed a' b₁') (listed a b')
+plain-begin c c' z z' h = answers-begin c c' z z' (least c z) h

@@ -8,11 +8,12 @@ use mathlib.Core.List.{List, [], _∷_, _++_, map}
 use lib.ListN.{length, drop, replicate}
 use Rattle.buffer.specs.Buffer.{onto}
 use Rattle.tiling.specs.Each.{Each, Pairs}
+use Rattle.tiling.specs.Greedy.{Begins}
 use Rattle.tiling.specs.Listing.{Entry, listing, tileWords, covered, score}
 use Rattle.tiling.specs.declared.Compared.{Compared}
 use Rattle.tiling.specs.Answer.{compared, Compares}
 use Rattle.tiling.specs.Demand.{FreeRun, Stands, Apart, onFirst, onSecond, long, smallerCounts, exchanged, tilesIn, listed, Tiled, Exchanges}
-use Rattle.tiling.proofs.Demand.{listing-tiled, exchange, exchange-count, exchange-covered, exchange-score}
+use Rattle.tiling.proofs.Demand.{listing-tiled, listing-begins, exchange, exchange-count, exchange-covered, exchange-score}
 
 -- Tiles written to the start of a buffer are read back.
 tiles-back : (es : List Entry) (rest : List ℕ) → tilesIn (length es) (tileWords es ++ rest) ≡ es
@@ -87,3 +88,9 @@ answers-exchange {first = first} {second = second} {minimum = minimum} c c' z z'
       covered = rw (answer-is c z, answer-is c' z') (exchange-covered first second minimum d);
       score = rw (answer-is c z, answer-is c' z') (exchange-score first second minimum d);
     }
+
+-- ---- two accepted comparisons of one pair, at a minimum and at a greater one
+-- The tiles at the greater are the first of those at the minimum, and the others are shorter than it.
+pub answers-begin : {r r' : ℕ} {first second : List ℕ} {minimum longer : ℕ} {ws b ws₁ b₁ : List ℕ} {a a' : Compared} {ws' b' ws₁' b₁' : List ℕ} → Compares r first second minimum ws b a ws' b' → Compares r' first second longer ws₁ b₁ a' ws₁' b₁' → a .refusal ≡ 0 → a' .refusal ≡ 0 → 1 ≤ minimum → minimum ≤ longer → Begins long longer (listed a' b₁') (listed a b')
+answers-begin {first = first} {second = second} {minimum = minimum} {longer = longer} c c' z z' one h =
+    rw (answers-listed c z, answers-listed c' z') (listing-begins first second minimum longer one h)
