@@ -8,7 +8,7 @@ use lib.ListN.{length}
 use Rattle.tiling.specs.Comparing.{plainRefusal}
 use Rattle.tiling.specs.Answer.{Compares}
 use Rattle.tiling.specs.Greedy.{Begins}
-use Rattle.tiling.specs.Demand.{long, FreeRun, smallerCounts, listed, Tiled, Exchanges}
+use Rattle.tiling.specs.Demand.{long, FreeRun, smallerCounts, tilesOf, Tiled, Exchanges}
 use Rattle.tiling.specs.declared.Compared.{Compared}
 use Rattle.tiling.proofs.Comparing.{plain-minimum}
 use Rattle.tiling.proofs.Answers.{answers-number, answers-tiled, answers-no-free-run, answers-at-one, answers-exchange, answers-begin}
@@ -23,11 +23,11 @@ module _ {first second : List ℕ} {minimum : ℕ} {ws b : List ℕ} {a : Compar
 
   -- The tiles listed lie in both sequences, match, have at least the minimum, never rise in length and never overlap; what they cover is
   -- at most each length.
-  pub plain-tiled : Tiled first second minimum (listed a b')
+  pub plain-tiled : Tiled first second minimum (tilesOf a b')
   plain-tiled = answers-tiled c accepted least
 
   -- No matching run of the minimum length is free on both.
-  pub plain-no-free-run : (i j : ℕ) → FreeRun first second (listed a b') minimum i j → ⊥
+  pub plain-no-free-run : (i j : ℕ) → FreeRun first second (tilesOf a b') minimum i j → ⊥
   plain-no-free-run = answers-no-free-run c accepted least
 
   -- At minimum 1 covered is the sum, over all codes, of the smaller number of calls.
@@ -39,5 +39,5 @@ pub plain-exchange : {first second : List ℕ} {minimum : ℕ} {ws b ws₁ b₁ 
 plain-exchange c c' = answers-exchange c c'
 
 -- The tiles at a greater minimum are the first of those at a smaller one, and the others are shorter than it.
-pub plain-begin : {first second : List ℕ} {minimum longer : ℕ} {ws b ws₁ b₁ : List ℕ} {a a' : Compared} {ws' b' ws₁' b₁' : List ℕ} → Plain first second minimum ws b a ws' b' → Plain first second longer ws₁ b₁ a' ws₁' b₁' → a .refusal ≡ 0 → a' .refusal ≡ 0 → minimum ≤ longer → Begins long longer (listed a' b₁') (listed a b')
+pub plain-begin : {first second : List ℕ} {minimum longer : ℕ} {ws b ws₁ b₁ : List ℕ} {a a' : Compared} {ws' b' ws₁' b₁' : List ℕ} → Plain first second minimum ws b a ws' b' → Plain first second longer ws₁ b₁ a' ws₁' b₁' → a .refusal ≡ 0 → a' .refusal ≡ 0 → minimum ≤ longer → Begins long longer (tilesOf a' b₁') (tilesOf a b')
 plain-begin c c' z z' h = answers-begin c c' z z' (least c z) h

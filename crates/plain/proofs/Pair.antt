@@ -17,8 +17,9 @@ use Rattle.tiling.specs.Tally.{tally}
 use Rattle.tiling.proofs.Tally.{tally-length}
 use Rattle.tiling.proofs.Greedy.{Greedy, done, only}
 use Rattle.tiling.proofs.Tiling.{tiling-greedy}
+use Rattle.tile.specs.Listed.{listed}
 use Rattle.sweep.specs.Workspace.{state}
-use Rattle.sweep.specs.Progress.{Laid, entry}
+use Rattle.sweep.specs.Progress.{Laid}
 use Rattle.sweep.specs.declared.Job.{Job}
 use Rattle.sweep.specs.declared.Totals.{Totals}
 use Rattle.plain.specs.Passes.{Filled, Ready, Finished, Listed, Checked}
@@ -75,7 +76,7 @@ module _ (pattern text : List ℕ) (minimum : ℕ) (straight : Bool) where
         }
 
     -- ---- the end
-    pub pair-listed : (ws₃ b' : List ℕ) (k : Totals) → Finished job ws₂ b (record { count = 0; covered = 0 }) ws₃ b' k → Listed (map (entry straight) (tiling minimum (start pattern text))) b b' k
+    pub pair-listed : (ws₃ b' : List ℕ) (k : Totals) → Finished job ws₂ b (record { count = 0; covered = 0 }) ws₃ b' k → Listed (map (listed straight) (tiling minimum (start pattern text))) b b' k
     pair-listed ws₃ b' k e =
         let l = e .onward .keeps (start pattern text) b nothing-laid in
         let g : Greedy best size lay minimum (start pattern text) (l .tiles ++ []) = l .rest [] (done (e .short)) in
@@ -83,7 +84,7 @@ module _ (pattern text : List ℕ) (minimum : ℕ) (straight : Bool) where
         sym (append-nil (l .tiles)) ∙ only g (tiling-greedy minimum (c .least) (start pattern text)) in
         record {
           held = rw (← t) (l .held);
-          counted = rw (← t) (l .counted ∙ sym (length-map (l .tiles) (entry straight)));
+          counted = rw (← t) (l .counted ∙ sym (length-map (l .tiles) (listed straight)));
           summed = rw (← t) (l .summed);
         }
 
@@ -95,7 +96,7 @@ module _ (first second : List ℕ) (minimum workspace : ℕ) (b : List ℕ) (c :
         let e : min (length first) (length second) ≡ length first = omega arith in
         rw e at c
 
-    pub first-listed : (b' : List ℕ) (k : Totals) → Listed (map (entry true) (tiling minimum (start first second))) b b' k → Listed (listing first second minimum) b b' k
+    pub first-listed : (b' : List ℕ) (k : Totals) → Listed (map (listed true) (tiling minimum (start first second))) b b' k → Listed (listing first second minimum) b b' k
     unfolding listing firstIsPattern
     first-listed b' k l = rw (listing, le-leb (length first) (length second) shorter) l
 
@@ -112,6 +113,6 @@ module _ (first second : List ℕ) (minimum workspace : ℕ) (b : List ℕ) (c :
           tile-room = rw (← e) (c .tile-room);
         }
 
-    pub second-listed : (b' : List ℕ) (k : Totals) → Listed (map (entry false) (tiling minimum (start second first))) b b' k → Listed (listing first second minimum) b b' k
+    pub second-listed : (b' : List ℕ) (k : Totals) → Listed (map (listed false) (tiling minimum (start second first))) b b' k → Listed (listing first second minimum) b b' k
     unfolding listing firstIsPattern
     second-listed b' k l = rw (listing, lt-leb (length first) (length second) longer) l

@@ -13,9 +13,10 @@ ghost use Rattle.tiling.specs.Tiling.{start, tiling};
 ghost use Rattle.tiling.specs.Listing.{listing};
 ghost use Rattle.tiling.specs.Comparing.{plainRefusal};
 ghost use Rattle.tiling.specs.Answer.{Compares};
+ghost use Rattle.tile.specs.Listed.{listed};
 ghost use Rattle.sweep.specs.Workspace.{Space, state};
 ghost use Rattle.sweep.specs.Row.{Row};
-ghost use Rattle.sweep.specs.Progress.{Sweeping, Onward, entry};
+ghost use Rattle.sweep.specs.Progress.{Sweeping, Onward};
 ghost use Rattle.plain.specs.Passes.{Scanned, Filled, Ready, Finished, Listed, Checked};
 
 // The first position from `from` on that holds w, or the end.
@@ -134,7 +135,7 @@ fn tile_pair(
     tiles: &mut [u32],
 ) -> Totals
     requires { ⌜ Checked (length (now pattern)) (length (now text)) (length (now pattern)) minimum (length (now ws)) (length (now tiles)) ⌝ }
-    ensures { λ r. ⌜ Listed (map (entry straight) (tiling minimum (start (now (pattern .entry)) (now (text .entry))))) (now (tiles .entry)) (now (tiles .exit)) r ⌝ }
+    ensures { λ r. ⌜ Listed (map (listed straight) (tiling minimum (start (now (pattern .entry)) (now (text .entry))))) (now (tiles .entry)) (now (tiles .exit)) r ⌝ }
 {
     let job = Job {
         n: pattern.len(),

@@ -26,7 +26,7 @@ use Rattle.tiling.proofs.Tiling.{Lies, best-lies, zero-no-call, takes-tile}
 use Rattle.tile.specs.Listed.{listed}
 use Rattle.tile.proofs.Tail.{listed-more}
 use Rattle.sweep.specs.Workspace.{Space, state, boundsFrom, bound, laid}
-use Rattle.sweep.specs.Progress.{Onward, Bounded, Sweeping, Searched, entry}
+use Rattle.sweep.specs.Progress.{Onward, Bounded, Sweeping, Searched}
 use Rattle.sweep.specs.declared.Job.{Job}
 use Rattle.sweep.specs.declared.Found.{Found}
 use Rattle.sweep.specs.declared.Totals.{Totals}
@@ -270,7 +270,7 @@ module _ (j : Job) (level p : ℕ) (ws b : List ℕ) (k : Totals) (f : Found) (s
         go (yes l) = omega (arith, bound-falls q, s .bounded .passed q l)
         go (no l) = omega (arith, bound-covered j ws p (f .t .0) level q (omega (arith, l)) (omega (arith, s .long, s .fits .least)), s .long, s .fits .least)
 
-    module _ (b' : List ℕ) (e : b' ≡ take (3 * k .count) b ++ onto (tileWords (listed (j .straight) p (f .t .0) level ∷ [])) (drop (3 * k .count) b)) where
+    module _ (b' : List ℕ) (e : b' ≡ take (3 * k .count) b ++ onto (tileWords (listed (j .straight) (record { p = p; t = f .t .0; len = level }) ∷ [])) (drop (3 * k .count) b)) where
       stepped : Sweeping j level (p + 1) (laid j p (f .t .0) level ws) b' (record { count = k .count + 1; covered = k .covered + level })
       stepped =
           record {
@@ -299,7 +299,7 @@ module _ (j : Job) (level p : ℕ) (ws b : List ℕ) (k : Totals) (f : Found) (s
           }
         where
           same-room : length b' ≡ length b
-          same-room = ap length e ∙ length-listed (k .count) b (listed (j .straight) p (f .t .0) level) tile-fits
+          same-room = ap length e ∙ length-listed (k .count) b (listed (j .straight) (record { p = p; t = f .t .0; len = level })) tile-fits
 
       stepped-onward : Onward j ws b k (laid j p (f .t .0) level ws) b' (record { count = k .count + 1; covered = k .covered + level })
       stepped-onward =
@@ -308,9 +308,9 @@ module _ (j : Job) (level p : ℕ) (ws b : List ℕ) (k : Totals) (f : Found) (s
                 record {
                   tiles = l .tiles ++ (next ∷ []);
                   rest = λ ls g. rw (append-assoc (l .tiles) (next ∷ []) ls) (l .rest (next ∷ ls) (lay-next ls g));
-                  held = e ∙ (rw (l .held, l .counted, map-append (entry (j .straight)) (l .tiles) (next ∷ []), ← length-map (l .tiles) (entry (j .straight))) (listed-more (map (entry (j .straight)) (l .tiles)) (entry (j .straight) next ∷ []) b₀));
+                  held = e ∙ (rw (l .held, l .counted, map-append (listed (j .straight)) (l .tiles) (next ∷ []), ← length-map (l .tiles) (listed (j .straight))) (listed-more (map (listed (j .straight)) (l .tiles)) (listed (j .straight) next ∷ []) b₀));
                   counted = rw (length-append (l .tiles) (next ∷ []), l .counted) refl;
-                  summed = rw (map-append (entry (j .straight)) (l .tiles) (next ∷ []), covered-append (map (entry (j .straight)) (l .tiles)) (entry (j .straight) next), ← l .summed) (one-more (j .straight));
+                  summed = rw (map-append (listed (j .straight)) (l .tiles) (next ∷ []), covered-append (map (listed (j .straight)) (l .tiles)) (listed (j .straight) next), ← l .summed) (one-more (j .straight));
                 };
           }
         where
@@ -321,7 +321,7 @@ module _ (j : Job) (level p : ℕ) (ws b : List ℕ) (k : Totals) (f : Found) (s
               let m : j .minimum ≤ size (best (state j ws)) = omega (arith, ap size next-is, s .long) in
               subst (λ k. Greedy best size lay (j .minimum) (state j ws) (k ∷ ls)) next-is (more m h)
 
-          one-more : (straight : Bool) → k .covered + level ≡ k .covered + listed straight p (f .t .0) level .len
+          one-more : (straight : Bool) → k .covered + level ≡ k .covered + listed straight next .len
           one-more true = refl
           one-more false = refl
 

@@ -26,18 +26,14 @@ pub record Fits (j : Job) (ws b : List ℕ) (k : Totals) : Type 0 where
   pub each : k .count * j .minimum ≤ k .covered
   pub free : k .covered + tally isCall (take (j .n) ws) ≤ j .n
 
--- A tile as it is listed: the pattern is the first sequence where straight is true, else the second.
-abbrev pub entry : Bool → Tile → Entry
-entry straight k = listed straight (k .p) (k .t) (k .len)
-
 -- Some tiles were laid from the state s₀ on and listed from the start of the buffer b₀ on: whatever the greedy choice lays from here,
 -- after them, is what it lays from s₀.
 pub record Laid (j : Job) (s₀ : State) (b₀ : List ℕ) (ws b : List ℕ) (k : Totals) : Type 0 where
   pub tiles : List Tile
   pub rest : (ls : List Tile) → Greedy best size lay (j .minimum) (state j ws) ls → Greedy best size lay (j .minimum) s₀ (tiles ++ ls)
-  pub held : b ≡ onto (tileWords (map (entry (j .straight)) tiles)) b₀
+  pub held : b ≡ onto (tileWords (map (listed (j .straight)) tiles)) b₀
   pub counted : k .count ≡ length tiles
-  pub summed : k .covered ≡ covered (map (entry (j .straight)) tiles)
+  pub summed : k .covered ≡ covered (map (listed (j .straight)) tiles)
 
 -- What was laid before is laid after, with more tiles at its end.
 pub record Onward (j : Job) (ws b : List ℕ) (k : Totals) (ws' b' : List ℕ) (k' : Totals) : Type 0 where

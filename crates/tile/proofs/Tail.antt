@@ -31,11 +31,11 @@ pub tail-put : (at : ℕ) (xs ys s : List ℕ) → ys ≡ onto s (take (length x
 tail-put at xs ys s e = rw (e, tail-is at xs, tail-last at xs, append-nil (onto s (drop at xs))) refl
 
 -- The same with the words of one tile, by which sequence is the pattern.
-pub tail-straight : (at : ℕ) (xs ys : List ℕ) (straight : Bool) (p t len : ℕ) → straight ≡ true → ys ≡ onto (p ∷ t ∷ len ∷ []) (take (length xs - at) (drop at xs)) → take at xs ++ (ys ++ drop (length xs - at) (drop at xs)) ≡ take at xs ++ onto (tileWords (listed straight p t len ∷ [])) (drop at xs)
+pub tail-straight : (at : ℕ) (xs ys : List ℕ) (straight : Bool) (p t len : ℕ) → straight ≡ true → ys ≡ onto (p ∷ t ∷ len ∷ []) (take (length xs - at) (drop at xs)) → take at xs ++ (ys ++ drop (length xs - at) (drop at xs)) ≡ take at xs ++ onto (tileWords (listed straight (record { p = p; t = t; len = len }) ∷ [])) (drop at xs)
 unfolding tileWords
 tail-straight at xs ys straight p t len s e = rw s (tail-put at xs ys (p ∷ t ∷ len ∷ []) e)
 
-pub tail-crossed : (at : ℕ) (xs ys : List ℕ) (straight : Bool) (p t len : ℕ) → straight ≡ false → ys ≡ onto (t ∷ p ∷ len ∷ []) (take (length xs - at) (drop at xs)) → take at xs ++ (ys ++ drop (length xs - at) (drop at xs)) ≡ take at xs ++ onto (tileWords (listed straight p t len ∷ [])) (drop at xs)
+pub tail-crossed : (at : ℕ) (xs ys : List ℕ) (straight : Bool) (p t len : ℕ) → straight ≡ false → ys ≡ onto (t ∷ p ∷ len ∷ []) (take (length xs - at) (drop at xs)) → take at xs ++ (ys ++ drop (length xs - at) (drop at xs)) ≡ take at xs ++ onto (tileWords (listed straight (record { p = p; t = t; len = len }) ∷ [])) (drop at xs)
 unfolding tileWords
 tail-crossed at xs ys straight p t len s e = rw s (tail-put at xs ys (t ∷ p ∷ len ∷ []) e)
 

@@ -1,9 +1,9 @@
--- A tile as it is listed, from its parts.
-use Prim.Native.Nat.{ℕ}
+-- A tile as it is listed, by which sequence is the pattern.
 use mathlib.Core.Bool.{Bool, true, false}
-use Rattle.tiling.specs.Listing.{Entry}
+use Rattle.tiling.specs.Tiling.{Tile}
+use Rattle.tiling.specs.Listing.{Entry, straight, crossed}
 
--- The pattern is the first sequence, or else the second.
-abbrev pub listed : Bool → ℕ → ℕ → ℕ → Entry
-listed true p t len = record { first = p; second = t; len = len }
-listed false p t len = record { first = t; second = p; len = len }
+-- The pattern is the first sequence where the flag is true, else the second.
+abbrev pub listed : Bool → Tile → Entry
+listed true = straight
+listed false = crossed

@@ -78,7 +78,7 @@ pub fn list_tile(
     len: usize,
 )
     requires { ⌜ (3 * (count + 1) ≤ length (now tiles)) × (p .0 ≤ 2048) × (t .0 ≤ 2048) × (len ≤ 2048) × (count ≤ 2048) ⌝ }
-    ensures { λ r. ⌜ now (tiles .exit) ≡ take (3 * count) (now (tiles .entry)) ++ onto (tileWords (listed straight (p .0) (t .0) len ∷ [])) (drop (3 * count) (now (tiles .entry))) ⌝ }
+    ensures { λ r. ⌜ now (tiles .exit) ≡ take (3 * count) (now (tiles .entry)) ++ onto (tileWords (listed straight (record { p = p .0; t = t .0; len = len }) ∷ [])) (drop (3 * count) (now (tiles .entry))) ⌝ }
 {
     let from = 3 * count;
     let on_pattern = p.0 as u32;

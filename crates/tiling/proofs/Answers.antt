@@ -12,7 +12,7 @@ use Rattle.tiling.specs.Greedy.{Begins}
 use Rattle.tiling.specs.Listing.{Entry, listing, tileWords, covered, score}
 use Rattle.tiling.specs.declared.Compared.{Compared}
 use Rattle.tiling.specs.Answer.{compared, Compares}
-use Rattle.tiling.specs.Demand.{FreeRun, Stands, Apart, onFirst, onSecond, long, smallerCounts, exchanged, tilesIn, listed, Tiled, Exchanges}
+use Rattle.tiling.specs.Demand.{FreeRun, Stands, Apart, onFirst, onSecond, long, smallerCounts, exchanged, tilesIn, tilesOf, Tiled, Exchanges}
 use Rattle.tiling.proofs.Demand.{listing-tiled, listing-begins, exchange, exchange-count, exchange-covered, exchange-score}
 
 -- Tiles written to the start of a buffer are read back.
@@ -35,14 +35,14 @@ module _ {r : ℕ} {first second : List ℕ} {minimum : ℕ} {ws b : List ℕ} {
   buffer-is : b' ≡ onto (tileWords (listing first second minimum)) b
   buffer-is = rw answers-number at (c .tiles)
 
-  pub answers-listed : listed a b' ≡ listing first second minimum
+  pub answers-listed : tilesOf a b' ≡ listing first second minimum
   answers-listed = rw (answer-is, buffer-is) (tiles-read (listing first second minimum) b)
 
   -- The three answers are those of the tiles in the buffer, and the workspace is zero.
-  pub answers-tiles : a .tiles ≡ length (listed a b')
+  pub answers-tiles : a .tiles ≡ length (tilesOf a b')
   answers-tiles = rw answers-listed (ap (λ x. x .tiles) answer-is)
 
-  pub answers-covered : a .covered ≡ covered (listed a b')
+  pub answers-covered : a .covered ≡ covered (tilesOf a b')
   answers-covered = rw answers-listed (ap (λ x. x .covered) answer-is)
 
   pub answers-score : a .score ≡ score (a .covered) (length first + length second)
@@ -51,26 +51,26 @@ module _ {r : ℕ} {first second : List ℕ} {minimum : ℕ} {ws b : List ℕ} {
   pub answers-zero : ws' ≡ replicate (length ws) 0
   answers-zero = rw answers-number at (c .workspace)
 
-  pub answers-tiled : 1 ≤ minimum → Tiled first second minimum (listed a b')
+  pub answers-tiled : 1 ≤ minimum → Tiled first second minimum (tilesOf a b')
   answers-tiled one = rw answers-listed (listing-tiled first second minimum one)
 
   -- One by one.
-  pub answers-no-free-run : 1 ≤ minimum → (i j : ℕ) → FreeRun first second (listed a b') minimum i j → ⊥
+  pub answers-no-free-run : 1 ≤ minimum → (i j : ℕ) → FreeRun first second (tilesOf a b') minimum i j → ⊥
   answers-no-free-run one = answers-tiled one .no-free-run
 
   pub answers-at-one : minimum ≡ 1 → a .covered ≡ smallerCounts (2 ^ 16) first second
   answers-at-one e = answers-covered ∙ answers-tiled (omega (arith, e)) .at-one e
 
-  pub answers-stand : 1 ≤ minimum → Each (Stands first second) (listed a b')
+  pub answers-stand : 1 ≤ minimum → Each (Stands first second) (tilesOf a b')
   answers-stand one = answers-tiled one .stands
 
-  pub answers-fall : 1 ≤ minimum → Pairs (λ d e. e .len ≤ d .len) (listed a b')
+  pub answers-fall : 1 ≤ minimum → Pairs (λ d e. e .len ≤ d .len) (tilesOf a b')
   answers-fall one = answers-tiled one .falling
 
-  pub answers-apart-first : 1 ≤ minimum → Pairs (Apart onFirst long) (listed a b')
+  pub answers-apart-first : 1 ≤ minimum → Pairs (Apart onFirst long) (tilesOf a b')
   answers-apart-first one = answers-tiled one .apart-first
 
-  pub answers-apart-second : 1 ≤ minimum → Pairs (Apart onSecond long) (listed a b')
+  pub answers-apart-second : 1 ≤ minimum → Pairs (Apart onSecond long) (tilesOf a b')
   answers-apart-second one = answers-tiled one .apart-second
 
   pub answers-within-first : 1 ≤ minimum → a .covered ≤ length first
@@ -91,6 +91,6 @@ answers-exchange {first = first} {second = second} {minimum = minimum} c c' z z'
 
 -- ---- two accepted comparisons of one pair, at a minimum and at a greater one
 -- The tiles at the greater are the first of those at the minimum, and the others are shorter than it.
-pub answers-begin : {r r' : ℕ} {first second : List ℕ} {minimum longer : ℕ} {ws b ws₁ b₁ : List ℕ} {a a' : Compared} {ws' b' ws₁' b₁' : List ℕ} → Compares r first second minimum ws b a ws' b' → Compares r' first second longer ws₁ b₁ a' ws₁' b₁' → a .refusal ≡ 0 → a' .refusal ≡ 0 → 1 ≤ minimum → minimum ≤ longer → Begins long longer (listed a' b₁') (listed a b')
+pub answers-begin : {r r' : ℕ} {first second : List ℕ} {minimum longer : ℕ} {ws b ws₁ b₁ : List ℕ} {a a' : Compared} {ws' b' ws₁' b₁' : List ℕ} → Compares r first second minimum ws b a ws' b' → Compares r' first second longer ws₁ b₁ a' ws₁' b₁' → a .refusal ≡ 0 → a' .refusal ≡ 0 → 1 ≤ minimum → minimum ≤ longer → Begins long longer (tilesOf a' b₁') (tilesOf a b')
 answers-begin {first = first} {second = second} {minimum = minimum} {longer = longer} c c' z z' one h =
     rw (answers-listed c z, answers-listed c' z') (listing-begins first second minimum longer one h)

@@ -87,13 +87,13 @@ tilesIn zero buffer = []
 tilesIn (suc n) buffer = record { first = getD buffer 0 0; second = getD buffer 1 0; len = getD buffer 2 0 } ∷ tilesIn n (drop 3 buffer)
 
 -- The tiles that a comparison lists: "the words of the tile buffer through the last tile".
-abbrev pub listed : Compared → List ℕ → List Entry
-listed a buffer = tilesIn (a .tiles) buffer
+abbrev pub tilesOf : Compared → List ℕ → List Entry
+tilesOf a buffer = tilesIn (a .tiles) buffer
 
 -- Two comparisons of which the second had the sequences exchanged: "only exchanges the sides of each tile: order, lengths, tile count,
 -- covered and score are equal."
 pub record Exchanges (a : Compared) (buffer : List ℕ) (a' : Compared) (buffer' : List ℕ) : Type 0 where
-  pub sides : listed a' buffer' ≡ map exchanged (listed a buffer)
+  pub sides : tilesOf a' buffer' ≡ map exchanged (tilesOf a buffer)
   pub tiles : a' .tiles ≡ a .tiles
   pub covered : a' .covered ≡ a .covered
   pub score : a' .score ≡ a .score
