@@ -1,13 +1,12 @@
 -- The state of a comparison under way, as the functions of the engines hand it on. No reader of the engines' contracts needs these.
 use Prim.Native.Nat.{ℕ, _+_, _*_, _/_, _≤_, _<_}
 use mathlib.Core.Path.{_≡_}
-use mathlib.Core.Bool.{Bool}
 use mathlib.Core.List.{List, _++_, map}
 use lib.ListN.{length, take, drop}
 use Rattle.symbol.specs.Word.{isCall}
 use Rattle.buffer.specs.Buffer.{onto}
 use Rattle.tiling.specs.Tiling.{Tile, State, runAt, best, size, lay}
-use Rattle.tiling.specs.Listing.{Entry, tileWords, covered}
+use Rattle.tiling.specs.Listing.{tileWords, covered}
 use Rattle.tiling.specs.Tally.{tally}
 use Rattle.tiling.proofs.Greedy.{Greedy}
 use Rattle.tile.specs.Listed.{listed}
