@@ -14,7 +14,7 @@ use Rattle.sweep.specs.Workspace.{Space, state, boundsFrom, bound}
 use Rattle.sweep.specs.Row.{Row}
 use Rattle.sweep.specs.declared.Job.{Job}
 use Rattle.sweep.specs.declared.Found.{Found}
-use Rattle.sweep.proofs.Workspace.{state-set, pattern-length}
+use Rattle.sweep.proofs.Workspace.{state-set, space-kept, pattern-length}
 use Rattle.plain.specs.Passes.{Filled}
 
 pub record Filling (j : Job) (ws₀ ws : List ℕ) (p : ℕ) : Type 0 where
@@ -56,12 +56,7 @@ module _ (j : Job) (ws₀ ws : List ℕ) (p : ℕ) (f : Found) (s : Filling j ws
         within = omega arith;
         least = s .least;
         most = s .most;
-        space =
-            record {
-              short-pattern = s .space .short-pattern;
-              short-text = s .space .short-text;
-              roomy = rw (length-set ws (boundsFrom j + p) (f .len)) (s .space .roomy);
-            };
+        space = space-kept j ws (set ws (boundsFrom j + p) (f .len)) (length-set ws (boundsFrom j + p) (f .len)) (s .space);
         same-room = length-set ws (boundsFrom j + p) (f .len) ∙ s .same-room;
         same = state-set j ws p (f .len) ∙ s .same;
         upper = λ q t h. upper q t h (ℕ-discrete q p);

@@ -30,7 +30,7 @@ use Rattle.sweep.specs.Progress.{Onward, Bounded, Sweeping, Searched}
 use Rattle.sweep.specs.declared.Job.{Job}
 use Rattle.sweep.specs.declared.Found.{Found}
 use Rattle.sweep.specs.declared.Totals.{Totals}
-use Rattle.sweep.proofs.Workspace.{state-set, state-laid, length-laid, pattern-length, text-length, bound-covered, bound-before, bound-after}
+use Rattle.sweep.proofs.Workspace.{state-set, state-laid, length-laid, space-kept, pattern-length, text-length, bound-covered, bound-before, bound-after}
 
 -- ---- lists of tiles
 map-append : {A B : Type 0} (g : A → B) (xs ys : List A) → map g (xs ++ ys) ≡ map g xs ++ map g ys
@@ -95,12 +95,7 @@ module _ (j : Job) (level p : ℕ) (ws b : List ℕ) (k : Totals) (f : Found) (s
         record {
           fits =
               record {
-                space =
-                    record {
-                      short-pattern = s .fits .space .short-pattern;
-                      short-text = s .fits .space .short-text;
-                      roomy = rw (length-set ws (boundsFrom j + p) (f .len)) (s .fits .space .roomy);
-                    };
+                space = space-kept j ws (set ws (boundsFrom j + p) (f .len)) (length-set ws (boundsFrom j + p) (f .len)) (s .fits .space);
                 least = s .fits .least;
                 most = s .fits .most;
                 tile-room = s .fits .tile-room;
@@ -276,12 +271,7 @@ module _ (j : Job) (level p : ℕ) (ws b : List ℕ) (k : Totals) (f : Found) (s
           record {
             fits =
                 record {
-                  space =
-                      record {
-                        short-pattern = s .fits .space .short-pattern;
-                        short-text = s .fits .space .short-text;
-                        roomy = rw (length-laid j ws p (f .t .0) level) (s .fits .space .roomy);
-                      };
+                  space = space-kept j ws (laid j p (f .t .0) level ws) (length-laid j ws p (f .t .0) level) (s .fits .space);
                   least = s .fits .least;
                   most = s .fits .most;
                   tile-room = rw (same-room) (s .fits .tile-room);

@@ -63,6 +63,10 @@ length-laid j ws p t len =
     length-mark (boundsFrom j + p) len (mark (j .n + t) len (mark p len ws))
     ∙ (length-mark (j .n + t) len (mark p len ws) ∙ length-mark p len ws)
 
+-- A store changes no length.
+pub space-kept : (j : Job) (ws ws' : List ℕ) → length ws' ≡ length ws → Space j ws → Space j ws'
+space-kept j ws ws' e s = record { short-pattern = s .short-pattern; short-text = s .short-text; roomy = omega (arith, e, s .roomy) }
+
 -- The lengths of the two sequences.
 pub pattern-length : (j : Job) (ws : List ℕ) → Space j ws → length (state j ws .pattern) ≡ j .n
 pattern-length j ws s = length-take-le (j .n) ws (omega (arith, s .roomy))
