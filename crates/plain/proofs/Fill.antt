@@ -2,18 +2,18 @@
 -- Assumes nothing.
 use Prim.Native.Nat.{ℕ, _+_, _-_, _≤_, _<_}
 use native.Mathlib.Nat.{not-suc-le-zero}
-use native.Mathlib.Decide.{decLt, ℕ-discrete}
+use native.Mathlib.Decide.{ℕ-discrete}
 use native.Mathlib.Omega.{arith}
 use mathlib.Core.Path.{_≡_, refl, sym, _∙_, subst}
 use mathlib.Core.List.{List}
 use lib.ListN.{length, drop, set, length-set, length-drop}
 use lib.Seq.{getD-set-same, getD-set-other}
 use Rattle.tiling.specs.Tiling.{runAt}
-use Rattle.tiling.proofs.Run.{run-within}
 use Rattle.sweep.specs.Workspace.{Space, state, boundsFrom, bound}
 use Rattle.sweep.specs.Row.{Row}
 use Rattle.sweep.specs.declared.Job.{Job}
 use Rattle.sweep.specs.declared.Found.{Found}
+use Rattle.sweep.proofs.Row.{row-small}
 use Rattle.sweep.proofs.Workspace.{state-set, space-kept, pattern-length}
 use Rattle.plain.specs.Passes.{Filled}
 
@@ -41,13 +41,9 @@ filling-none j ws s h k =
 module _ (j : Job) (ws₀ ws : List ℕ) (p : ℕ) (f : Found) (s : Filling j ws₀ ws p) (inside : p < j .n) (r : Row (drop p (state j ws .pattern)) (state j ws .text) (j .minimum - 1) f) where
   -- What was found fits a bound.
   pub found-fits : f .len ≤ 2048
-  found-fits = go (decLt (j .minimum - 1) (f .len))
-    where
-      go : Dec (j .minimum - 1 < f .len) → f .len ≤ 2048
-      go (yes h) =
-          let w = run-within (drop p (state j ws .pattern)) (drop (f .t .0) (state j ws .text)) in
-          omega (arith, r .long h, w, length-drop p (state j ws .pattern), pattern-length j ws (s .space), s .space .short-pattern)
-      go (no h) = omega (arith, h, s .most)
+  found-fits =
+      row-small (drop p (state j ws .pattern)) (state j ws .text) (j .minimum - 1) 2048 f r (omega (arith, s .most))
+      (omega (arith, length-drop p (state j ws .pattern), pattern-length j ws (s .space), s .space .short-pattern))
 
   pub filling-more : (ws' : List ℕ) → ws' ≡ set ws (boundsFrom j + p) (f .len) → Filling j ws₀ ws' (p + 1)
   filling-more ws' e =

@@ -17,7 +17,7 @@ use Rattle.buffer.proofs.Buffer.{length-onto}
 use Rattle.tiling.specs.Run.{run, mark}
 use Rattle.tiling.specs.Tiling.{Tile, State, runAt, best, size, lay}
 use Rattle.tiling.specs.Listing.{Entry, tileWords, covered}
-use Rattle.tiling.proofs.Run.{zero-left, run-within, run-match, mark-inside}
+use Rattle.tiling.proofs.Run.{zero-left, run-match, mark-inside}
 use Rattle.tiling.specs.Tally.{tally}
 use Rattle.tiling.proofs.Greedy.{Greedy, more}
 use Rattle.tiling.proofs.Best.{Best, best-is, best-only, past-pattern}
@@ -30,6 +30,7 @@ use Rattle.sweep.specs.Progress.{Onward, Bounded, Sweeping, Searched}
 use Rattle.sweep.specs.declared.Job.{Job}
 use Rattle.sweep.specs.declared.Found.{Found}
 use Rattle.sweep.specs.declared.Totals.{Totals}
+use Rattle.sweep.proofs.Row.{row-small}
 use Rattle.sweep.proofs.Workspace.{state-set, state-laid, length-laid, space-kept, pattern-length, text-length, bound-covered, bound-before, bound-after}
 
 -- ---- lists of tiles
@@ -80,13 +81,9 @@ module _ (j : Job) (level p : ℕ) (ws b : List ℕ) (k : Totals) (f : Found) (s
       go (no h) = omega (arith, h, r .below)
 
   pub found-small : f .len ≤ 2048
-  found-small = go (decLt (r .floor) (f .len))
-    where
-      go : Dec (r .floor < f .len) → f .len ≤ 2048
-      go (yes h) =
-          let w = run-within (drop p (state j ws .pattern)) (drop (f .t .0) (state j ws .text)) in
-          omega (arith, r .row .long h, w, length-drop p (state j ws .pattern), pattern-length j ws (s .fits .space), s .fits .space .short-pattern)
-      go (no h) = omega (arith, h, r .low)
+  found-small =
+      row-small (drop p (state j ws .pattern)) (state j ws .text) (r .floor) 2048 f (r .row) (r .low)
+      (omega (arith, length-drop p (state j ws .pattern), pattern-length j ws (s .fits .space), s .fits .space .short-pattern))
 
   -- ---- a shorter run is the row's new bound
   module _ (short : f .len ≡ level → ⊥) where
