@@ -11,11 +11,11 @@ use lib.Seq.{getD-set-same, getD-set-other}
 use Rattle.tiling.specs.Tiling.{runAt}
 use Rattle.sweep.specs.Workspace.{Space, state, boundsFrom, bound}
 use Rattle.sweep.specs.Row.{Row}
+use Rattle.sweep.specs.Progress.{Filled}
 use Rattle.sweep.specs.declared.Job.{Job}
 use Rattle.sweep.specs.declared.Found.{Found}
 use Rattle.sweep.proofs.Row.{row-small}
 use Rattle.sweep.proofs.Workspace.{state-set, space-kept, pattern-length}
-use Rattle.plain.specs.Passes.{Filled}
 
 pub record Filling (j : Job) (ws₀ ws : List ℕ) (p : ℕ) : Type 0 where
   pub within : p ≤ j .n

@@ -1,7 +1,5 @@
 pub mod Scan
 pub mod View
 pub mod Fill
-pub mod Turn
-pub mod Pair
-pub mod Outcome
+pub mod Accepted
 pub mod Laws

@@ -21,7 +21,7 @@ use Rattle.tile.proofs.Tail.{tail-is}
 use Rattle.sweep.specs.Row.{Row, better}
 use Rattle.sweep.specs.declared.Found.{Found}
 use Rattle.sweep.proofs.Row.{better-new, better-old}
-use Rattle.plain.specs.Passes.{Scanned}
+use Rattle.plain.specs.Scanned.{Scanned}
 
 -- ---- the next occurrence of a word
 pub record Scanning (words : List ℕ) (from w i : ℕ) : Type 0 where

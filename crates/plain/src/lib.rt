@@ -16,8 +16,9 @@ ghost use Rattle.tiling.specs.Answer.{Compares};
 ghost use Rattle.tile.specs.Listed.{listed};
 ghost use Rattle.sweep.specs.Workspace.{Space, state};
 ghost use Rattle.sweep.specs.Row.{Row};
-ghost use Rattle.sweep.specs.Progress.{Sweeping, Onward};
-ghost use Rattle.plain.specs.Passes.{Scanned, Filled, Ready, Finished, Listed, Checked};
+ghost use Rattle.sweep.specs.Progress.{Filled, Ready, Sweeping, Onward, Finished};
+ghost use Rattle.sweep.specs.Result.{Listed, Checked};
+ghost use Rattle.plain.specs.Scanned.{Scanned};
 
 // The first position from `from` on that holds w, or the end.
 fn next_word(words: &[u32], from: usize, w: u32) -> usize
@@ -114,7 +115,7 @@ fn sweep_rows(ws: &mut [u32], job: Job, level: usize, tiles: &mut [u32], totals:
 // Lays the tiles of every length from the greatest bound down to the minimum.
 fn lay_all(ws: &mut [u32], job: Job, tiles: &mut [u32], totals: Totals) -> Totals
     requires { ⌜ Ready job (now ws) (now tiles) totals ⌝ }
-    ensures { λ r. ⌜ Finished job (now (ws .entry)) (now (tiles .entry)) totals (now (ws .exit)) (now (tiles .exit)) r ⌝ }
+    ensures { λ r. ⌜ Finished job (job .minimum) (now (ws .entry)) (now (tiles .entry)) totals (now (ws .exit)) (now (tiles .exit)) r ⌝ }
 {
     let mut sum = totals;
     let mut level = sweep::greatest_bound(ws, job);

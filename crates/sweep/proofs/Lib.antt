@@ -2,3 +2,6 @@ pub mod Workspace
 pub mod Most
 pub mod Row
 pub mod Step
+pub mod Turn
+pub mod Pair
+pub mod Outcome

@@ -1,3 +1,4 @@
 pub mod Workspace
 pub mod Row
 pub mod Progress
+pub mod Result

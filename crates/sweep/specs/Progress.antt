@@ -57,3 +57,24 @@ pub record Searched (j : Job) (ws : List ℕ) (level p : ℕ) (f : Found) : Type
   pub low : floor ≤ 2048
   pub below : floor < level
   pub row : Row (drop p (state j ws .pattern)) (state j ws .text) floor f
+
+-- No run of a row exceeds its bound.
+abbrev pub Upper : Job → List ℕ → Type 0
+Upper j ws = (q t : ℕ) → q < j .n → runAt (state j ws) q t ≤ bound j ws q
+
+-- The bounds were filled, and the sequences are as they were.
+pub record Filled (j : Job) (ws ws' : List ℕ) : Type 0 where
+  pub same : state j ws' ≡ state j ws
+  pub space : Space j ws'
+  pub upper : Upper j ws'
+
+-- Ready to lay tiles.
+pub record Ready (j : Job) (ws b : List ℕ) (k : Totals) : Type 0 where
+  pub fits : Fits j ws b k
+  pub upper : Upper j ws
+
+-- Every tile of at least s words was laid: nothing as long is left.
+pub record Finished (j : Job) (s : ℕ) (ws b : List ℕ) (k : Totals) (ws' b' : List ℕ) (k' : Totals) : Type 0 where
+  pub fits : Fits j ws' b' k'
+  pub onward : Onward j ws b k ws' b' k'
+  pub short : best (state j ws') .len < s

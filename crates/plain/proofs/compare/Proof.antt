@@ -1,7 +1,8 @@
 -- `plain::compare` meets its contract: it branches once, on the refusal's number; where that is 0 the tiles are listed, and the whole workspace
 -- is cleared on the one way out.
 -- Assumes nothing.
-use Rattle.plain.proofs.Outcome.{compare-refused, compare-checked, short-total, few-covered, covered-fits, count-fits, compare-accepted}
+use Rattle.sweep.proofs.Outcome.{compare-refused, compare-accepted}
+use Rattle.plain.proofs.Accepted.{checked, total-fits, few-covered, covered-fits, count-fits}
 use borrow.Author.Needs.{needs}
 use Rattle.plain.proofs.compare.Statement.{statement}
 use Rattle.plain.proofs.compare.Tie as tie
@@ -13,7 +14,7 @@ returns : tie.Need-returns
 returns c = search compare-refused
 
 tile-sides-requires : tie.Need-tile-sides-requires
-tile-sides-requires c κs = search compare-checked
+tile-sides-requires c κs = search checked
 
 mark-words-requires : tie.Need-mark-words-requires
 mark-words-requires c κs = search needs
@@ -28,7 +29,7 @@ add-score-of : tie.Need-add-score-of
 add-score-of c = search needs
 
 score-of-requires : tie.Need-score-of-requires
-score-of-requires c κs = (search few-covered, search short-total)
+score-of-requires c κs = (search few-covered, search total-fits)
 
 same-length : tie.Need-same-length
 same-length c = search needs

@@ -1,12 +1,12 @@
 -- `plain::lay_all` meets its contract: at the head of each turn the level is the greatest bound, and a sweep leaves every bound below it.
 -- Assumes nothing.
 use borrow.Author.Needs.{needs}
-use Rattle.plain.proofs.Turn.{Level, level-none, level-sweep, level-less, level-more, level-done}
+use Rattle.sweep.proofs.Turn.{Level, level-none, level-sweep, level-less, level-more, level-done}
 use Rattle.plain.proofs.lay_all.Statement.{statement}
 use Rattle.plain.proofs.lay_all.Tie as tie
 
 abbrev Inv-loop : tie.InvT-loop
-Inv-loop ws₀ job tiles₀ sum₀ level₀ ws tiles sum level = Level job ws₀ tiles₀ sum₀ ws tiles sum level
+Inv-loop ws₀ job tiles₀ sum₀ level₀ ws tiles sum level = Level job (job .minimum) ws₀ tiles₀ sum₀ ws tiles sum level
 
 abbrev μ-loop : tie.MeasureT-loop
 μ-loop ws₀ job tiles₀ sum₀ level₀ ws tiles sum level = level
@@ -15,7 +15,7 @@ greatest-bound-requires : tie.Need-greatest-bound-requires Inv-loop μ-loop
 greatest-bound-requires c κs = search needs
 
 loop-holds : tie.Need-loop-holds Inv-loop μ-loop
-loop-holds c = search level-none
+loop-holds c = search (level-none, needs)
 
 sweep-rows-requires : tie.Need-sweep-rows-requires Inv-loop μ-loop
 sweep-rows-requires c κs = search (level-sweep, needs)

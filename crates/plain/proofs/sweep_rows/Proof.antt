@@ -2,7 +2,7 @@
 -- Assumes nothing.
 use Prim.Native.Nat.{_-_}
 use borrow.Author.Needs.{needs}
-use Rattle.plain.proofs.Turn.{Swept, swept-none, swept-more, swept-all}
+use Rattle.sweep.proofs.Turn.{Swept, swept-none, swept-more, swept-all}
 use Rattle.plain.proofs.sweep_rows.Statement.{statement}
 use Rattle.plain.proofs.sweep_rows.Tie as tie
 

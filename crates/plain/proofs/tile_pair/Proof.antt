@@ -1,6 +1,6 @@
 -- `plain::tile_pair` meets its contract: it starts from the two sequences with no tile laid, and stops when nothing as long as the minimum is left.
 -- Assumes nothing.
-use Rattle.plain.proofs.Pair.{pair-ready, pair-listed}
+use Rattle.sweep.proofs.Pair.{pair-ready, pair-listed}
 use borrow.Author.Needs.{needs}
 use Rattle.plain.proofs.tile_pair.Statement.{statement}
 use Rattle.plain.proofs.tile_pair.Tie as tie

@@ -1,6 +1,6 @@
 -- `plain::tile_sides` meets its contract: the shorter sequence is the pattern, of equal lengths the first, and the tiles are listed so.
 -- Assumes nothing.
-use Rattle.plain.proofs.Pair.{first-checked, first-listed, second-checked, second-listed}
+use Rattle.sweep.proofs.Pair.{first-checked, first-listed, second-checked, second-listed}
 use borrow.Author.Needs.{needs}
 use Rattle.plain.proofs.tile_sides.Statement.{statement}
 use Rattle.plain.proofs.tile_sides.Tie as tie

@@ -1,6 +1,6 @@
 -- `plain::visit` meets its contract: a row below the level is passed, and one at the level is searched and settled.
 -- Assumes nothing.
-use Rattle.plain.proofs.Turn.{onward-none, row-below, row-searched}
+use Rattle.sweep.proofs.Turn.{onward-none, row-below, row-searched-least}
 use borrow.Author.Needs.{needs}
 use Rattle.plain.proofs.visit.Statement.{statement}
 use Rattle.plain.proofs.visit.Tie as tie
@@ -21,7 +21,7 @@ search-row-requires : tie.Need-search-row-requires
 search-row-requires c κs = search needs
 
 settle-requires : tie.Need-settle-requires
-settle-requires c κs = (search needs, search needs, search row-searched)
+settle-requires c κs = (search needs, search needs, search row-searched-least)
 
 same-length-2 : tie.Need-same-length-2
 same-length-2 c = search needs

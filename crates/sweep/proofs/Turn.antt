@@ -1,4 +1,5 @@
--- The turns of a sweep and of the levels. Contracts of the steps go from entry to exit and follow one another.
+-- The turns of a sweep and of the levels, whichever way a row is searched. Contracts of the steps go from entry to exit and follow one
+-- another.
 -- Assumes nothing.
 use Prim.Native.Nat.{ℕ, _+_, _-_, _≤_, _<_}
 use native.Mathlib.Decide.{ℕ-discrete}
@@ -7,16 +8,15 @@ use native.Mathlib.Omega.{arith}
 use mathlib.Core.Path.{_≡_, refl, _∙_}
 use mathlib.Core.List.{List}
 use lib.ListN.{length, drop}
 use Rattle.sweep.specs.Workspace.{state, bound}
 use Rattle.sweep.specs.Row.{Row, Greatest}
-use Rattle.sweep.specs.Progress.{Bounded, Onward, Sweeping, Searched}
+use Rattle.sweep.specs.Progress.{Bounded, Onward, Sweeping, Searched, Ready, Finished}
 use Rattle.sweep.specs.declared.Job.{Job}
 use Rattle.sweep.specs.declared.Found.{Found}
 use Rattle.sweep.specs.declared.Totals.{Totals}
 use Rattle.tiling.specs.Tiling.{best}
 use Rattle.tiling.proofs.Best.{best-is}
 use Rattle.sweep.proofs.Step.{below-level}
-use Rattle.plain.specs.Passes.{Ready, Finished}
 
 pub onward-none : (j : Job) (ws b : List ℕ) (k : Totals) → Onward j ws b k ws b k
 onward-none j ws b k = record { keeps = λ s₀ b₀ l. l }
@@ -40,14 +40,12 @@ module _ (j : Job) (level p : ℕ) (ws b : List ℕ) (k : Totals) (s : Sweeping 
       passed q h (yes q≡p) = rw q≡p (omega (arith, s .bounded .capped p inside, e, d))
       passed q h (no n) = s .bounded .passed q (omega (arith, n))
 
-  pub row-searched : (f : Found) → Row (drop p (state j ws .pattern)) (state j ws .text) (j .minimum - 1) f → Searched j ws level p f
-  row-searched f r =
-      record {
-        floor = j .minimum - 1;
-        low = omega (arith, s .fits .most);
-        below = omega (arith, s .fits .least, s .long);
-        row = r;
-      }
+  -- A row that was searched for runs of at least n words.
+  pub row-searched : (n : ℕ) (f : Found) → 1 ≤ n → n ≤ 2048 → n ≤ level → Row (drop p (state j ws .pattern)) (state j ws .text) (n - 1) f → Searched j ws level p f
+  row-searched n f one small below r = record { floor = n - 1; low = omega arith; below = omega arith; row = r }
+
+  pub row-searched-least : (f : Found) → Row (drop p (state j ws .pattern)) (state j ws .text) (j .minimum - 1) f → Searched j ws level p f
+  row-searched-least f = row-searched (j .minimum) f (s .fits .least) (omega (arith, s .fits .most)) (s .long)
 
 -- ---- a sweep
 pub record Swept (j : Job) (level : ℕ) (ws₀ b₀ : List ℕ) (k₀ : Totals) (ws b : List ℕ) (k : Totals) (p : ℕ) : Type 0 where
@@ -71,24 +69,26 @@ swept-more j level ws₀ b₀ ws b ws' b' k₀ k k' p s x y v w =
 pub swept-all : (j : Job) (level : ℕ) (ws b : List ℕ) (k : Totals) (p : ℕ) → Sweeping j level p ws b k → j .n ≤ p → Sweeping j level (j .n) ws b k
 swept-all j level ws b k p s h = let e : p ≡ j .n = omega (arith, s .within) in rw e at s
 
--- ---- the levels
-pub record Level (j : Job) (ws₀ b₀ : List ℕ) (k₀ : Totals) (ws b : List ℕ) (k : Totals) (level : ℕ) : Type 0 where
+-- ---- the levels, down to runs of n words
+pub record Level (j : Job) (n : ℕ) (ws₀ b₀ : List ℕ) (k₀ : Totals) (ws b : List ℕ) (k : Totals) (level : ℕ) : Type 0 where
   pub ready : Ready j ws b k
+  pub enough : j .minimum ≤ n
   pub greatest : Greatest (bound j ws) (j .n) level
   pub onward : Onward j ws₀ b₀ k₀ ws b k
   pub same-room : length ws ≡ length ws₀
   pub same-tiles : length b ≡ length b₀
 
-pub level-none : (j : Job) (ws b : List ℕ) (k : Totals) (level : ℕ) → Ready j ws b k → Greatest (bound j ws) (j .n) level → Level j ws b k ws b k level
-level-none j ws b k level r g = record { ready = r; greatest = g; onward = onward-none j ws b k; same-room = refl; same-tiles = refl }
+pub level-none : (j : Job) (n : ℕ) (ws b : List ℕ) (k : Totals) (level : ℕ) → j .minimum ≤ n → Ready j ws b k → Greatest (bound j ws) (j .n) level → Level j n ws b k ws b k level
+level-none j n ws b k level h r g =
+    record { ready = r; enough = h; greatest = g; onward = onward-none j ws b k; same-room = refl; same-tiles = refl }
 
 -- No bound exceeds the greatest, so a sweep can begin.
-pub level-sweep : (j : Job) (ws b : List ℕ) (k : Totals) (level : ℕ) → Ready j ws b k → Greatest (bound j ws) (j .n) level → j .minimum ≤ level → Sweeping j level 0 ws b k
-level-sweep j ws b k level r g h =
+pub level-sweep : (j : Job) (n : ℕ) (ws₀ b₀ : List ℕ) (k₀ : Totals) (ws b : List ℕ) (k : Totals) (level : ℕ) → Level j n ws₀ b₀ k₀ ws b k level → n ≤ level → Sweeping j level 0 ws b k
+level-sweep j n ws₀ b₀ k₀ ws b k level l h =
     record {
-      fits = r .fits;
-      bounded = record { upper = r .upper; capped = g .most; passed = λ q l. absurd (not-suc-le-zero l) };
-      long = h;
+      fits = l .ready .fits;
+      bounded = record { upper = l .ready .upper; capped = l .greatest .most; passed = λ q m. absurd (not-suc-le-zero m) };
+      long = omega (arith, l .enough);
       within = omega arith;
     }
 
@@ -97,22 +97,24 @@ module _ (j : Job) (level : ℕ) (ws' b' : List ℕ) (k' : Totals) (s : Sweeping
   pub level-less : next < level
   level-less = g .least level (omega (arith, s .fits .least, s .long)) (λ q h. s .bounded .passed q h)
 
-  pub level-more : (ws₀ b₀ ws b : List ℕ) (k₀ k : Totals) → Level j ws₀ b₀ k₀ ws b k level → Onward j ws b k ws' b' k' → length ws' ≡ length ws → length b' ≡ length b → Level j ws₀ b₀ k₀ ws' b' k' next
-  level-more ws₀ b₀ ws b k₀ k l o v w =
+  pub level-more : (n : ℕ) (ws₀ b₀ ws b : List ℕ) (k₀ k : Totals) → Level j n ws₀ b₀ k₀ ws b k level → Onward j ws b k ws' b' k' → length ws' ≡ length ws → length b' ≡ length b → Level j n ws₀ b₀ k₀ ws' b' k' next
+  level-more n ws₀ b₀ ws b k₀ k l o v w =
       record {
         ready = record { fits = s .fits; upper = s .bounded .upper };
+        enough = l .enough;
         greatest = g;
         onward = onward-more j ws₀ b₀ ws b ws' b' k₀ k k' (l .onward) o;
         same-room = v ∙ l .same-room;
         same-tiles = w ∙ l .same-tiles;
       }
 
--- Below the minimum nothing long enough is left.
-pub level-done : (j : Job) (ws₀ b₀ : List ℕ) (k₀ : Totals) (ws b : List ℕ) (k : Totals) (level : ℕ) → Level j ws₀ b₀ k₀ ws b k level → level < j .minimum → Finished j ws₀ b₀ k₀ ws b k
-level-done j ws₀ b₀ k₀ ws b k level l h =
+-- Below n nothing as long is left.
+pub level-done : (j : Job) (n : ℕ) (ws₀ b₀ : List ℕ) (k₀ : Totals) (ws b : List ℕ) (k : Totals) (level : ℕ) → Level j n ws₀ b₀ k₀ ws b k level → level < n → Finished j n ws₀ b₀ k₀ ws b k
+level-done j n ws₀ b₀ k₀ ws b k level l h =
     let s = state j ws in
     let none : Bounded j ws level 0 = record { upper = l .ready .upper; capped = l .greatest .most; passed = λ q m. absurd (not-suc-le-zero m) } in
     record {
+      fits = l .ready .fits;
       onward = l .onward;
       short = omega (arith, best-is s .long, below-level j ws level 0 (l .ready .fits .space) none (best s .p) (best s .t));
     }

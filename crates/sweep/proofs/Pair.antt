@@ -18,11 +18,11 @@ use Rattle.tiling.proofs.Tally.{tally-length}
 use Rattle.tiling.proofs.Greedy.{Greedy, done, only}
 use Rattle.tiling.proofs.Tiling.{tiling-greedy}
 use Rattle.tile.specs.Listed.{listed}
 use Rattle.sweep.specs.Workspace.{state}
-use Rattle.sweep.specs.Progress.{Laid}
+use Rattle.sweep.specs.Progress.{Laid, Filled, Ready, Finished}
+use Rattle.sweep.specs.Result.{Listed, Checked}
 use Rattle.sweep.specs.declared.Job.{Job}
 use Rattle.sweep.specs.declared.Totals.{Totals}
-use Rattle.plain.specs.Passes.{Filled, Ready, Finished, Listed, Checked}
 
 -- ---- the start
 module _ (pattern text : List ℕ) (minimum : ℕ) (straight : Bool) where
@@ -76,7 +76,7 @@ module _ (pattern text : List ℕ) (minimum : ℕ) (straight : Bool) where
         }
 
     -- ---- the end
-    pub pair-listed : (ws₃ b' : List ℕ) (k : Totals) → Finished job ws₂ b (record { count = 0; covered = 0 }) ws₃ b' k → Listed (map (listed straight) (tiling minimum (start pattern text))) b b' k
+    pub pair-listed : (ws₃ b' : List ℕ) (k : Totals) → Finished job minimum ws₂ b (record { count = 0; covered = 0 }) ws₃ b' k → Listed (map (listed straight) (tiling minimum (start pattern text))) b b' k
     pair-listed ws₃ b' k e =
         let l = e .onward .keeps (start pattern text) b nothing-laid in
         let g : Greedy best size lay minimum (start pattern text) (l .tiles ++ []) = l .rest [] (done (e .short)) in
