@@ -1,4 +1,5 @@
 pub mod Workspace
 pub mod Row
+pub mod Settled
 pub mod Progress
 pub mod Result

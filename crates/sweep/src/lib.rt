@@ -9,6 +9,7 @@ ghost use lib.ListN.{length, getD, set};
 ghost use Rattle.buffer.specs.Buffer.{onto};
 ghost use Rattle.sweep.specs.Workspace.{Space, boundsFrom, bound, laid};
 ghost use Rattle.sweep.specs.Row.{better, Greatest};
+ghost use Rattle.sweep.specs.Settled.{settledWords, settledTiles, settledTotals};
 ghost use Rattle.sweep.specs.Progress.{Searched, Sweeping, Onward};
 
 // What a comparison works on: the lengths of pattern and text, the minimum, and whether the first sequence is the pattern.
@@ -41,6 +42,7 @@ pub fn keep(found: Found, t: TextAt, len: usize) -> Found
     found
 }
 
+// A word as a length.
 fn wide(w: u32) -> usize
     ensures { λ r. ⌜ r ≡ w ⌝ }
 {
@@ -56,6 +58,7 @@ pub fn bound_of(ws: &[u32], job: Job, p: PatternAt) -> usize
     wide(ws[at])
 }
 
+// Sets the bound of a row.
 pub fn set_bound(ws: &mut [u32], job: Job, p: PatternAt, value: usize)
     requires { ⌜ Space job (now ws) × (p .0 < job .n) × (value ≤ 2048) ⌝ }
     ensures { λ r. ⌜ now (ws .exit) ≡ set (now (ws .entry)) (boundsFrom job + p .0) value ⌝ }
@@ -77,6 +80,7 @@ fn greatest(words: &[u32]) -> u32
     most
 }
 
+// The larger of two words.
 fn larger(a: u32, b: u32) -> u32
     ensures { λ r. ⌜ r ≡ max a b ⌝ }
 {
@@ -119,6 +123,9 @@ pub fn settle(
     totals: Totals,
 ) -> Totals
     requires { ⌜ Sweeping job level (p .0) (now ws) (now tiles) totals × (p .0 < job .n) × Searched job (now ws) level (p .0) found ⌝ }
+    ensures { λ r. ⌜ r ≡ settledTotals level found totals ⌝ }
+    ensures { λ r. ⌜ now (ws .exit) ≡ settledWords job level (p .0) found (now (ws .entry)) ⌝ }
+    ensures { λ r. ⌜ now (tiles .exit) ≡ settledTiles job level (p .0) found totals (now (tiles .entry)) ⌝ }
     ensures { λ r. ⌜ Sweeping job level (p .0 + 1) (now (ws .exit)) (now (tiles .exit)) r ⌝ }
     ensures { λ r. ⌜ Onward job (now (ws .entry)) (now (tiles .entry)) totals (now (ws .exit)) (now (tiles .exit)) r ⌝ }
 {

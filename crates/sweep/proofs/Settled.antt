@@ -1,0 +1,14 @@
+-- The two ways in which a row is settled, as the code tests them.
+-- Assumes nothing.
+use Prim.Native.Nat.{ℕ}
+use mathlib.Core.Path.{_≡_}
+use borrow.Author.Tests.{eq-eqb, ne-eqb}
+use lib.Dec.{eqb}
+use Rattle.sweep.specs.Settled.{settle-by}
+
+module _ {A : Type 0} (n level : ℕ) where
+  pub settle-laid : (x laid lowered : A) → n ≡ level → x ≡ laid → x ≡ settle-by (eqb n level) laid lowered
+  settle-laid x laid lowered e k = rw (eq-eqb n level e) k
+
+  pub settle-lowered : (x laid lowered : A) → (n ≡ level → ⊥) → x ≡ lowered → x ≡ settle-by (eqb n level) laid lowered
+  settle-lowered x laid lowered d k = rw (ne-eqb n level d) k
