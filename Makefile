@@ -4,6 +4,9 @@ SHELL := /bin/bash
 .ONESHELL:
 .PHONY: library test check clean
 
+# Builds and runs a program of tests/.
+run := cargo run --offline --quiet --manifest-path tests/Cargo.toml --target-dir target/cargo
+
 # Proves everything from nothing and runs the Rust test program; ends with the last line of `rt ci`.
 test:
 	@log=$$(mktemp)
@@ -11,7 +14,7 @@ test:
 	rt fmt --check
 	rt ci | tee "$$log"
 	rt staticlib capi
-	cargo run --release --offline --quiet --manifest-path tests/Cargo.toml --target-dir target/cargo
+	$(run) --profile checked --bin tests
 	tail -n 1 "$$log"
 
 # Writes target/staticlib/libcapi.a, the proved functions for Rust and C.

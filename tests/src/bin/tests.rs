@@ -1,17 +1,8 @@
 //! Compares the core's exported functions with a reference made apart from it. Each group prints a
 //! line with its name, its number of cases and its seed; a difference makes the exit status 1.
 
-mod core;
-mod group;
-mod hashes;
-mod known;
-mod random;
-mod records;
-mod reference;
-mod samples;
-mod words;
-
-use group::Group;
+use sigxume_tests::group::Group;
+use sigxume_tests::{hashes, known, records, words};
 use std::process::ExitCode;
 
 /// A group's name, its seed and its cases.
