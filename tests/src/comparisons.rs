@@ -193,13 +193,12 @@ pub fn small(g: &mut Group) {
     }
 }
 
-/// Random pairs of up to 60 words over few codes and more, in both orders.
-pub fn random(g: &mut Group) {
-    for number in 0..100_000 {
-        let codes = g.random.pick(&[1, 2, 2, 3, 3, 4, 5, 6, 10, 40, 65_535]);
-        let longest = g.random.pick(&[8, 20, 60]);
+/// Compares so many random pairs in both orders; codes, lengths and minimums come from tables.
+fn compare_random(g: &mut Group, count: usize, codes: &[u16], longest: &[usize], minimums: &[u32]) {
+    for number in 0..count {
+        let (codes, longest) = (g.random.pick(codes), g.random.pick(longest));
         let pair = any_pair(&mut g.random, longest, codes);
-        let minimum = g.random.pick(&[1, 1, 1, 2, 2, 3, 3, 4, 5, 8, 20]);
+        let minimum = g.random.pick(minimums);
         for [first, second] in both_orders(&pair) {
             let case = format_args!(
                 "pair {number}: {} and {}, minimum {minimum}",
@@ -209,6 +208,13 @@ pub fn random(g: &mut Group) {
             compare(g, case, [first, second], minimum);
         }
     }
+}
+
+/// Random pairs of up to 60 words over few codes and more.
+pub fn random(g: &mut Group) {
+    let codes = [1, 2, 2, 3, 3, 4, 5, 6, 10, 40, 65_535];
+    let minimums = [1, 1, 1, 2, 2, 3, 3, 4, 5, 8, 20];
+    compare_random(g, 100_000, &codes, &[8, 20, 60], &minimums);
 }
 
 /// Pairs of up to 2,048 words: related, unrelated, identical, of one code, periodic, edited.
@@ -264,17 +270,8 @@ pub fn larger(g: &mut Group) {
             compare(g, case, [first, second], *minimum);
         }
     }
-    for number in 0..150 {
-        let codes = g.random.pick(&[1, 2, 4, 20, 300]);
-        let longest = g.random.pick(&[100, 300, 500]);
-        let pair = any_pair(&mut g.random, longest, codes);
-        let minimum = g.random.pick(&[2, 3, 5, 8, 20, 64]);
-        for [first, second] in both_orders(&pair) {
-            let (n, m) = (first.len(), second.len());
-            let case = format_args!("pair {number}, {n} and {m} words, minimum {minimum}");
-            compare(g, case, [first, second], minimum);
-        }
-    }
+    let minimums = [2, 3, 5, 8, 20, 64];
+    compare_random(g, 150, &[1, 2, 4, 20, 300], &[100, 300, 500], &minimums);
 }
 
 /// What the workspace and the tile buffer held before, other than random words: zeros, ones, small

@@ -42,20 +42,20 @@ pub fn letters(letters: &str) -> Vec<u32> {
         .collect()
 }
 
-/// A sequence in these letters, for the name of a case; codes past z in numbers.
+/// A sequence in these letters, for the name of a case: codes past z in numbers, 60 words at most.
 pub struct Letters<'a>(pub &'a [u32]);
 
 impl Display for Letters<'_> {
     fn fmt(&self, f: &mut Formatter) -> fmt::Result {
         f.write_str("'")?;
-        for &word in self.0 {
+        for &word in self.0.iter().take(60) {
             match word & 0xFFFF {
                 _ if word == NO_CALL => f.write_str("?")?,
                 code @ 1..=26 => write!(f, "{}", (b'a' - 1 + code as u8) as char)?,
                 code => write!(f, "<{code}>")?,
             }
         }
-        f.write_str("'")
+        f.write_str(if self.0.len() > 60 { "..'" } else { "'" })
     }
 }
 

@@ -6,7 +6,7 @@ use sigxume_tests::core::{self, Compared};
 use sigxume_tests::pairs::{calls, periodic, related, unrelated, Pair};
 use sigxume_tests::random::Random;
 use sigxume_tests::reference::{self, tile_words, workspace_words, MAX_WORDS};
-use sigxume_tests::samples::call;
+use sigxume_tests::samples::{call, NO_CALL};
 use std::hint::black_box;
 use std::process::ExitCode;
 use std::time::{Duration, Instant};
@@ -100,20 +100,26 @@ impl Job {
 }
 
 /// The pairs of the first table.
-fn kinds() -> Vec<(&'static str, Pair)> {
+fn kinds() -> [(&'static str, Pair); 6] {
     let random = &mut Random::new(SEED);
     let whole = calls(random, MAX_WORDS, CODES);
-    vec![
+    let one_code = vec![call(1); MAX_WORDS];
+    // Almost every pair of positions begins a long run, and none of them is much longer.
+    let mut broken = one_code.clone();
+    broken
+        .iter_mut()
+        .skip(127)
+        .step_by(128)
+        .for_each(|word| *word = NO_CALL);
+    [
         ("related", related(random, MAX_WORDS, CODES)),
         ("unrelated", unrelated(random, MAX_WORDS, CODES)),
         ("identical", [whole.clone(), whole]),
-        (
-            "one code",
-            [vec![call(1); MAX_WORDS], vec![call(1); MAX_WORDS]],
-        ),
+        ("one code", [one_code.clone(), one_code.clone()]),
+        ("one code, broken", [one_code, broken]),
         (
             "periodic",
-            [periodic(MAX_WORDS, 7, 0), periodic(MAX_WORDS, 7, 3)],
+            [0, 3].map(|phase| periodic(MAX_WORDS, 7, phase)),
         ),
     ]
 }
@@ -234,10 +240,7 @@ fn grow() {
 }
 
 fn main() -> ExitCode {
-    let mut jobs: Vec<(&str, Job)> = kinds()
-        .into_iter()
-        .map(|(name, pair)| (name, Job::new(pair)))
-        .collect();
+    let mut jobs = kinds().map(|(name, pair)| (name, Job::new(pair)));
     if !agree(&mut jobs) {
         return ExitCode::FAILURE;
     }
