@@ -47,8 +47,8 @@ const LENGTHS: [usize; 4] = [256, 512, 1_024, 2_048];
 const LEAST_RUNS: usize = 3;
 const LEAST_TIME: Duration = Duration::from_millis(500);
 
-/// A pair and the buffers lent to compare it, of exactly the size asked for. They are zero before
-/// the first comparison and are not cleared in between.
+/// A pair and the buffers lent to compare it, of exactly the size asked for. Between comparisons
+/// nothing clears them; each comparison leaves the workspace zero.
 struct Job {
     pair: Pair,
     workspace: Vec<u32>,
@@ -77,10 +77,10 @@ impl Job {
         black_box(answer)
     }
 
-    /// The answer and what is left in both buffers, which are zero before.
+    /// The answer and what is left in both buffers, where every bit was set before.
     fn outcome(&mut self, column: &Column) -> (Compared, Vec<u32>, Vec<u32>) {
-        self.workspace.fill(0);
-        self.tiles.fill(0);
+        self.workspace.fill(u32::MAX);
+        self.tiles.fill(u32::MAX);
         let answer = self.run(column);
         (answer, self.workspace.clone(), self.tiles.clone())
     }
@@ -245,11 +245,11 @@ fn main() -> ExitCode {
         return ExitCode::FAILURE;
     }
     println!(
-        "All columns give the same answers, tiles and workspaces.\n\n\
+        "All columns give the same answers and tiles and leave a dirty workspace zero.\n\n\
          Two sequences of {MAX_WORDS} words, {CODES} codes, minimum {MINIMUM}, seed {SEED}; median \
          time of a comparison in ms.\n\
-         Buffers are zero at first and not cleared in between: an engine leaves its workspace zero, \
-         within its time.\n"
+         The workspace is zero before each comparison and not cleared in between: each column \
+         leaves it so, within its time.\n"
     );
     let kept = compare_columns(&mut jobs);
     println!("\nThe same with growing lengths, and the exponent fitted to the times.\n");
