@@ -2,7 +2,10 @@
 SHELL := /bin/bash
 .SHELLFLAGS := -euo pipefail -c
 .ONESHELL:
-.PHONY: library test check clean
+.PHONY: library test bench check clean
+
+# Builds and runs a program of tests/.
+run := cargo run --offline --quiet --manifest-path tests/Cargo.toml --target-dir target/cargo
 
 # Proves everything from nothing and runs the Rust test program; ends with the last line of `rt ci`.
 test:
@@ -11,12 +14,16 @@ test:
 	rt fmt --check
 	rt ci | tee "$$log"
 	rt staticlib capi
-	cargo run --release --offline --quiet --manifest-path tests/Cargo.toml --target-dir target/cargo
+	$(run) --profile checked --bin tests
 	tail -n 1 "$$log"
 
 # Writes target/staticlib/libcapi.a, the proved functions for Rust and C.
 library:
 	@rt staticlib capi
+
+# Times the engines beside the baselines, in one run; fails where an answer differs or a promised ratio is not reached.
+bench: library
+	@$(run) --release --bin benchmark
 
 # The quick loop: proves what has changed.
 check:

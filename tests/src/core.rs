@@ -19,6 +19,16 @@ pub struct Counted {
     pub count: u32,
 }
 
+/// The answer of a comparison: a refusal's number and zeros, or 0 and what was laid.
+#[repr(C)]
+#[derive(Clone, Copy, Debug, PartialEq, Eq)]
+pub struct Compared {
+    pub refusal: u32,
+    pub tiles: u32,
+    pub covered: u32,
+    pub score: u32,
+}
+
 extern "C" {
     fn sigxume_match(a: u32, b: u32) -> bool;
     fn sigxume_sound(words: *const u32, words_len: usize) -> bool;
@@ -43,6 +53,17 @@ extern "C" {
         buffer: *mut u32,
         buffer_len: usize,
     ) -> Counted;
+    fn sigxume_compare_plain(
+        first: *const u32,
+        first_len: usize,
+        second: *const u32,
+        second_len: usize,
+        minimum: u32,
+        workspace: *mut u32,
+        workspace_len: usize,
+        tiles: *mut u32,
+        tiles_len: usize,
+    ) -> Compared;
 }
 
 /// Whether two words match.
@@ -83,6 +104,29 @@ pub fn hash_list(words: &[u32], multiplier: u32, window: u32, buffer: &mut [u32]
             window,
             buffer.as_mut_ptr(),
             buffer.len(),
+        )
+    }
+}
+
+/// Compares two sequences by the plain engine; the tiles go to the start of `tiles`.
+pub fn compare_plain(
+    first: &[u32],
+    second: &[u32],
+    minimum: u32,
+    workspace: &mut [u32],
+    tiles: &mut [u32],
+) -> Compared {
+    unsafe {
+        sigxume_compare_plain(
+            first.as_ptr(),
+            first.len(),
+            second.as_ptr(),
+            second.len(),
+            minimum,
+            workspace.as_mut_ptr(),
+            workspace.len(),
+            tiles.as_mut_ptr(),
+            tiles.len(),
         )
     }
 }

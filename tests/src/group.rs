@@ -1,6 +1,6 @@
 //! A group of cases: it has its own random numbers, counts its cases and reports each difference.
 
-use crate::core::{Counted, ReadAnswer};
+use crate::core::{Compared, Counted, ReadAnswer};
 use crate::random::Random;
 use std::fmt::{Arguments, Debug};
 
@@ -25,6 +25,25 @@ impl Answer for Counted {
     fn refusal(&self) -> u32 {
         self.refusal
     }
+}
+
+impl Answer for Compared {
+    fn refusal(&self) -> u32 {
+        self.refusal
+    }
+}
+
+/// The lent parts of buffers with guard words around them.
+fn lent<const N: usize>(guarded: &mut [Vec<u32>; N]) -> [&mut [u32]; N] {
+    guarded.each_mut().map(|words| {
+        let end = words.len() - GUARD;
+        &mut words[GUARD..end]
+    })
+}
+
+/// The first position at which two lists differ.
+fn first_difference(a: &[u32], b: &[u32]) -> Option<usize> {
+    a.iter().zip(b).position(|(a, b)| a != b)
 }
 
 pub struct Group {
@@ -57,23 +76,39 @@ impl Group {
         }
     }
 
-    /// A case with a lent buffer of `room` words: the core and the reference get the same random
-    /// words, and must give the same answer and leave the same words, those around the buffer
-    /// included. `refusal` is the number that the case was made for, where it was made for one.
-    pub fn lend<A: Answer>(
+    /// A case with lent buffers of so many words each: the core and the reference get the same
+    /// random words, and must give the same answer and leave the same words, those around the
+    /// buffers included. `refusal` is the number that the case was made for, where it was made for
+    /// one.
+    pub fn lend<A: Answer, const N: usize>(
         &mut self,
         case: Arguments,
-        room: usize,
+        rooms: [usize; N],
         refusal: Option<u32>,
-        core: impl FnOnce(&mut [u32]) -> A,
-        reference: impl FnOnce(&mut [u32]) -> A,
+        core: impl FnOnce([&mut [u32]; N]) -> A,
+        reference: impl FnOnce([&mut [u32]; N]) -> A,
+    ) {
+        let held = rooms.map(|room| self.random.words(room));
+        self.lend_holding(case, held, refusal, core, reference);
+    }
+
+    /// A case with lent buffers that hold the given words.
+    pub fn lend_holding<A: Answer, const N: usize>(
+        &mut self,
+        case: Arguments,
+        held: [Vec<u32>; N],
+        refusal: Option<u32>,
+        core: impl FnOnce([&mut [u32]; N]) -> A,
+        reference: impl FnOnce([&mut [u32]; N]) -> A,
     ) {
         self.cases += 1;
-        let mut left_by_core = self.random.words(room + 2 * GUARD);
+        let mut left_by_core = held.map(|words| {
+            let [before, after] = [(); 2].map(|()| self.random.words(GUARD));
+            [before, words, after].concat()
+        });
         let mut left_by_reference = left_by_core.clone();
-        let lent = GUARD..GUARD + room;
-        let answer = core(&mut left_by_core[lent.clone()]);
-        let expected = reference(&mut left_by_reference[lent]);
+        let answer = core(lent(&mut left_by_core));
+        let expected = reference(lent(&mut left_by_reference));
         if answer != expected {
             self.fail(
                 case,
@@ -84,18 +119,23 @@ impl Group {
                 case,
                 format_args!("core and reference {answer:?}, the case is made for {refusal:?}"),
             );
-        } else if left_by_core != left_by_reference {
-            let mut pairs = left_by_core.iter().zip(&left_by_reference);
-            let at = pairs.position(|(a, b)| a != b).unwrap_or_default();
-            self.fail(
-                case,
-                format_args!(
-                    "{answer:?}, buffer of {room} words, word {}: core {:#x}, reference {:#x}",
-                    at as isize - GUARD as isize,
-                    left_by_core[at],
-                    left_by_reference[at],
-                ),
-            );
+        } else {
+            let mut pairs = left_by_core.iter().zip(&left_by_reference).enumerate();
+            let difference =
+                pairs.find_map(|(number, (a, b))| Some((number, first_difference(a, b)?)));
+            if let Some((number, at)) = difference {
+                self.fail(
+                    case,
+                    format_args!(
+                        "{answer:?}, buffer {number} of {} words, word {}: \
+                         core {:#x}, reference {:#x}",
+                        left_by_core[number].len() - 2 * GUARD,
+                        at as isize - GUARD as isize,
+                        left_by_core[number][at],
+                        left_by_reference[number][at],
+                    ),
+                );
+            }
         }
     }
 

@@ -23,10 +23,10 @@ fn hash_list(
 ) {
     g.lend(
         case,
-        room,
+        [room],
         refusal,
-        |buffer| core::hash_list(words, multiplier, window, buffer),
-        |buffer| reference::hash_list(words, multiplier, window, buffer),
+        |[buffer]| core::hash_list(words, multiplier, window, buffer),
+        |[buffer]| reference::hash_list(words, multiplier, window, buffer),
     );
 }
 

@@ -3,6 +3,7 @@
 use crate::group::Group;
 use crate::reference::{covered, score, tiling, window_hashes, Tile};
 use crate::samples::{call, NO_CALL};
+use std::fmt::{self, Display, Formatter};
 
 /// A row of 01's table: name, first, second, minimum, tiles, covered, score.
 type Row = (
@@ -41,21 +42,58 @@ pub fn letters(letters: &str) -> Vec<u32> {
         .collect()
 }
 
+/// A sequence in these letters, for the name of a case: codes past z in numbers, 60 words at most.
+pub struct Letters<'a>(pub &'a [u32]);
+
+impl Display for Letters<'_> {
+    fn fmt(&self, f: &mut Formatter) -> fmt::Result {
+        f.write_str("'")?;
+        for &word in self.0.iter().take(60) {
+            match word & 0xFFFF {
+                _ if word == NO_CALL => f.write_str("?")?,
+                code @ 1..=26 => write!(f, "{}", (b'a' - 1 + code as u8) as char)?,
+                code => write!(f, "<{code}>")?,
+            }
+        }
+        f.write_str(if self.0.len() > 60 { "..'" } else { "'" })
+    }
+}
+
+/// A row of 01's table as sequences and tiles.
+pub struct Known {
+    pub name: &'static str,
+    pub first: Vec<u32>,
+    pub second: Vec<u32>,
+    pub minimum: usize,
+    pub tiles: Vec<Tile>,
+    pub covered: usize,
+    pub score: usize,
+}
+
+/// The rows K1 to K11.
+pub fn rows() -> impl Iterator<Item = Known> {
+    PAIRS.into_iter().map(
+        |(name, first, second, minimum, tiles, covered, score)| Known {
+            name,
+            first: letters(first),
+            second: letters(second),
+            minimum,
+            tiles: tiles.iter().map(|&tile| tile.into()).collect(),
+            covered,
+            score,
+        },
+    )
+}
+
 /// K1 to K11.
 pub fn pairs(g: &mut Group) {
-    for (name, first, second, minimum, tiles, its_covered, its_score) in PAIRS {
-        let (first, second) = (letters(first), letters(second));
-        let laid = tiling(&first, &second, minimum);
+    for row in rows() {
+        let laid = tiling(&row.first, &row.second, row.minimum);
         let sum = covered(&laid);
-        let its_tiles = tiles.iter().map(|&[first, second, length]| Tile {
-            first,
-            second,
-            length,
-        });
         g.equal(
-            format_args!("{name}: tiles, covered, score"),
-            (laid, sum, score(sum, first.len(), second.len())),
-            (its_tiles.collect(), its_covered, its_score),
+            format_args!("{}: tiles, covered, score", row.name),
+            (laid, sum, score(sum, row.first.len(), row.second.len())),
+            (row.tiles, row.covered, row.score),
         );
     }
 }

@@ -17,7 +17,7 @@ use std::fmt::Arguments;
 const LENGTHS: [usize; 6] = [0, 1, 2, 20, MAX_WORDS - 1, MAX_WORDS];
 
 /// 01's two records: id, letters, header and trailer.
-const WORKED: [(u16, &str, u32, u32); 2] = [
+pub const WORKED: [(u16, &str, u32, u32); 2] = [
     (12, "caabaad", 0x0003_0007, 0xC003_0014),
     (13, "baadcaaaabaa", 0x0003_400C, 0xC003_401F),
 ];
@@ -26,10 +26,10 @@ const WORKED: [(u16, &str, u32, u32); 2] = [
 fn read(g: &mut Group, case: Arguments, src: &[u32], room: usize, refusal: Option<u32>) {
     g.lend(
         case,
-        room,
+        [room],
         refusal,
-        |buffer| core::read(src, buffer),
-        |buffer| reference::read(src, buffer),
+        |[buffer]| core::read(src, buffer),
+        |[buffer]| reference::read(src, buffer),
     );
 }
 
@@ -44,10 +44,10 @@ fn write(
 ) {
     g.lend(
         case,
-        room,
+        [room],
         refusal,
-        |buffer| core::write(id, words, buffer),
-        |buffer| reference::write(id, words, buffer),
+        |[buffer]| core::write(id, words, buffer),
+        |[buffer]| reference::write(id, words, buffer),
     );
 }
 

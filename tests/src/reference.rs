@@ -2,15 +2,21 @@
 //! core. The comments quote 01; a sequence is its strand, a record its strip, a header its heading,
 //! a trailer its closing word and an id its fish number.
 
-use crate::core::{Counted, ReadAnswer};
+use crate::core::{Compared, Counted, ReadAnswer};
 
 /// "A strand is 0 to 2,048 words [..]."
 pub const MAX_WORDS: usize = 2_048;
 
+/// "Minimum not 1 to 256" is refused.
+pub const MAX_MINIMUM: u32 = 256;
+
 // The refusals' numbers in 01's table.
 pub const TOO_LONG: u32 = 1;
 pub const UNSOUND: u32 = 2;
+pub const MINIMUM: u32 = 3;
 pub const WINDOW: u32 = 5;
+pub const WORKSPACE: u32 = 6;
+pub const TILES: u32 = 7;
 pub const CUT: u32 = 8;
 pub const HEADER: u32 = 9;
 pub const TRAILER: u32 = 10;
@@ -178,6 +184,16 @@ pub struct Tile {
     pub length: usize,
 }
 
+impl From<[usize; 3]> for Tile {
+    fn from([first, second, length]: [usize; 3]) -> Self {
+        Self {
+            first,
+            second,
+            length,
+        }
+    }
+}
+
 /// The pattern or the text: its words, and which of them a tile has marked.
 struct Side<'a> {
     words: &'a [u32],
@@ -237,12 +253,12 @@ pub fn tiling(first: &[u32], second: &[u32], minimum: usize) -> Vec<Tile> {
     while let Some((p, t, length)) = best_run(&pattern, &text, minimum) {
         pattern.mark(p, length);
         text.mark(t, length);
-        let (first, second) = if swapped { (t, p) } else { (p, t) };
-        tiles.push(Tile {
-            first,
-            second,
-            length,
-        });
+        let tile = if swapped {
+            [t, p, length]
+        } else {
+            [p, t, length]
+        };
+        tiles.push(tile.into());
     }
     tiles
 }
@@ -255,4 +271,74 @@ pub fn covered(tiles: &[Tile]) -> usize {
 /// "2,000 × covered divided by the sum of both lengths, rounded down; two empty strands score 0."
 pub fn score(covered: usize, first: usize, second: usize) -> usize {
     (2_000 * covered).checked_div(first + second).unwrap_or(0)
+}
+
+/// The words of a workspace that a comparison asks for: "4 × (sum of lengths)".
+pub fn workspace_words(first: usize, second: usize) -> usize {
+    4 * (first + second)
+}
+
+/// The words of a tile buffer that it asks for: "3 × (shorter length divided by minimum, rounded
+/// down)", for a minimum of at least 1.
+pub fn tile_words(first: usize, second: usize, minimum: u32) -> usize {
+    3 * (first.min(second) / minimum as usize)
+}
+
+/// "Comparing checks 1 to 7 in that order"; 4 and 5 are the fast engine's.
+fn check_plain(
+    sequences: [&[u32]; 2],
+    minimum: u32,
+    workspace: usize,
+    tiles: usize,
+) -> Result<(), u32> {
+    let [first, second] = sequences.map(<[u32]>::len);
+    refuse(first > MAX_WORDS || second > MAX_WORDS, TOO_LONG)?;
+    refuse(!sequences.into_iter().all(all_sound), UNSOUND)?;
+    refuse(!(1..=MAX_MINIMUM).contains(&minimum), MINIMUM)?;
+    refuse(workspace < workspace_words(first, second), WORKSPACE)?;
+    refuse(tiles < tile_words(first, second, minimum), TILES)
+}
+
+/// What an accepted comparison of two sequences of these lengths answers and leaves behind, for the
+/// tiles in the order laid: "the whole lent workspace is zero", and "words beyond the last tile keep
+/// their values".
+pub fn accept(
+    laid: &[Tile],
+    [first, second]: [usize; 2],
+    workspace: &mut [u32],
+    tiles: &mut [u32],
+) -> Compared {
+    workspace.fill(0);
+    let words = laid.iter().flat_map(|t| [t.first, t.second, t.length]);
+    let words: Vec<u32> = words.map(|word| word as u32).collect();
+    tiles[..words.len()].copy_from_slice(&words);
+    let covered = covered(laid);
+    Compared {
+        refusal: 0,
+        tiles: laid.len() as u32,
+        covered: covered as u32,
+        score: score(covered, first, second) as u32,
+    }
+}
+
+/// Compares two sequences as the plain engine must.
+pub fn compare_plain(
+    first: &[u32],
+    second: &[u32],
+    minimum: u32,
+    workspace: &mut [u32],
+    tiles: &mut [u32],
+) -> Compared {
+    match check_plain([first, second], minimum, workspace.len(), tiles.len()) {
+        Err(refusal) => Compared {
+            refusal,
+            tiles: 0,
+            covered: 0,
+            score: 0,
+        },
+        Ok(()) => {
+            let laid = tiling(first, second, minimum as usize);
+            accept(&laid, [first.len(), second.len()], workspace, tiles)
+        }
+    }
 }

@@ -1,24 +1,16 @@
 //! Compares the core's exported functions with a reference made apart from it. Each group prints a
 //! line with its name, its number of cases and its seed; a difference makes the exit status 1.
 
-mod core;
-mod group;
-mod hashes;
-mod known;
-mod random;
-mod records;
-mod reference;
-mod samples;
-mod words;
-
-use group::Group;
+use sigxume_tests::comparisons::{self, laws, limits, mistakes};
+use sigxume_tests::group::Group;
+use sigxume_tests::{hashes, known, records, words};
 use std::process::ExitCode;
 
 /// A group's name, its seed and its cases.
 type Row = (&'static str, u64, fn(&mut Group));
 
 #[rustfmt::skip]
-const GROUPS: [Row; 26] = [
+const GROUPS: [Row; 41] = [
     ("reference: known pairs", 1, known::pairs),
     ("reference: known windows", 2, known::windows),
     ("match: boundary words", 3, words::match_boundaries),
@@ -45,6 +37,21 @@ const GROUPS: [Row; 26] = [
     ("hashes: unsound words", 24, hashes::unsound),
     ("hashes: order of refusals", 25, hashes::order),
     ("hashes: random", 26, hashes::random),
+    ("plain: known pairs", 27, comparisons::known),
+    ("plain: exact minimum", 28, mistakes::exact_minimum),
+    ("plain: remainders", 29, mistakes::remainders),
+    ("plain: ties", 30, mistakes::ties),
+    ("plain: early ends", 31, mistakes::early_ends),
+    ("plain: covered in full", 32, mistakes::in_full),
+    ("plain: every small pair", 33, comparisons::small),
+    ("plain: random pairs", 34, comparisons::random),
+    ("plain: larger pairs", 35, comparisons::larger),
+    ("plain: what buffers held", 36, comparisons::held),
+    ("plain: sizes", 37, limits::sizes),
+    ("plain: full tile buffers", 38, limits::full),
+    ("plain: unsound words", 39, limits::unsound),
+    ("plain: order of refusals", 40, limits::order),
+    ("plain: laws", 41, laws::laws),
 ];
 
 fn main() -> ExitCode {

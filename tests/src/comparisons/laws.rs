@@ -1,0 +1,142 @@
+//! Laws of the tiling, tested on the core's own answers; the reference's tiling has no part in it.
+
+use super::{both_orders, listed, Sides};
+use crate::group::Group;
+use crate::pairs::{any_pair, periodic, related, unrelated, Pair};
+use crate::reference::{covered, matches, score, Tile, MAX_WORDS};
+use crate::samples::call;
+use std::collections::HashMap;
+
+/// Which words of both sides no tile covers; none where a tile does not stand in the pair as a run
+/// of free words.
+fn free_words(pair: Sides, tiles: &[Tile]) -> Option<[Vec<bool>; 2]> {
+    let mut free = pair.map(|words| vec![true; words.len()]);
+    for tile in tiles {
+        for (first, second) in (tile.first..).zip(tile.second..).take(tile.length) {
+            let stands = *free[0].get(first)? && *free[1].get(second)?;
+            if !stands || !matches(pair[0][first], pair[1][second]) {
+                return None;
+            }
+            free[0][first] = false;
+            free[1][second] = false;
+        }
+    }
+    Some(free)
+}
+
+/// The longest run of free words that match one by one.
+fn longest_free_run([first, second]: Sides, free: &[Vec<bool>; 2]) -> usize {
+    let mut longest = 0;
+    // The runs that end just before each position of the second side.
+    let mut runs = vec![0; second.len() + 1];
+    for i in 0..first.len() {
+        for j in (0..second.len()).rev() {
+            let goes_on = free[0][i] && free[1][j] && matches(first[i], second[j]);
+            runs[j + 1] = if goes_on { runs[j] + 1 } else { 0 };
+            longest = longest.max(runs[j + 1]);
+        }
+    }
+    longest
+}
+
+/// How many calls of each code a sequence has, by the call's word.
+fn counts(words: &[u32]) -> HashMap<u32, usize> {
+    let mut counts = HashMap::new();
+    for &word in words.iter().filter(|&&word| matches(word, word)) {
+        *counts.entry(word).or_default() += 1;
+    }
+    counts
+}
+
+/// The sum, over all codes, of the smaller of its numbers of calls on the two sides.
+fn shared_calls([first, second]: Sides) -> usize {
+    let (first, second) = (counts(first), counts(second));
+    let both = first
+        .iter()
+        .map(|(code, &n)| n.min(*second.get(code).unwrap_or(&0)));
+    both.sum()
+}
+
+/// Tries every law on a pair.
+fn hold(g: &mut Group, name: &str, pair: Sides, minimum: u32) {
+    let [first, second] = pair;
+    let (n, m) = (first.len(), second.len());
+    let name = format_args!("{name}, {n} and {m} words, minimum {minimum}").to_string();
+    let (answer, tiles) = listed(pair, minimum);
+    let sum = covered(&tiles);
+    g.equal(
+        format_args!("{name}: refusal, tiles, covered and score are those of the tiles listed"),
+        [answer.refusal, answer.tiles, answer.covered, answer.score],
+        [0, tiles.len(), sum, score(sum, n, m)].map(|number| number as u32),
+    );
+    g.equal(
+        format_args!("{name}: lengths never rise, and none is below the minimum"),
+        (
+            tiles.is_sorted_by(|a, b| a.length >= b.length),
+            tiles.iter().all(|tile| tile.length >= minimum as usize),
+        ),
+        (true, true),
+    );
+    let free = free_words(pair, &tiles);
+    g.equal(
+        format_args!("{name}: tiles stand in both sequences and share no word"),
+        free.is_some(),
+        true,
+    );
+    if let Some(free) = free {
+        let longest = longest_free_run(pair, &free);
+        g.equal(
+            format_args!("{name}: no free run of the minimum is left, the longest has {longest}"),
+            longest < minimum as usize,
+            true,
+        );
+    }
+    if minimum == 1 {
+        g.equal(
+            format_args!("{name}: covered is the sum of the smaller numbers of calls"),
+            sum,
+            shared_calls(pair),
+        );
+    }
+    if n != m {
+        let (exchanged, crossed) = listed([second, first], minimum);
+        let back = crossed.iter().map(|tile| Tile {
+            first: tile.second,
+            second: tile.first,
+            length: tile.length,
+        });
+        g.equal(
+            format_args!("{name}: exchanging the sides exchanges the starts and nothing else"),
+            (exchanged, back.collect()),
+            (answer, tiles),
+        );
+    }
+}
+
+/// Random pairs and larger ones, up to 2,048 words.
+pub fn laws(g: &mut Group) {
+    for number in 0..8_000 {
+        let codes = g.random.pick(&[1, 2, 3, 4, 6, 20]);
+        let pair = any_pair(&mut g.random, 60, codes);
+        let minimum = g.random.pick(&[1, 1, 2, 3, 5]);
+        let [first, second] = &pair;
+        hold(g, &format!("pair {number}"), [first, second], minimum);
+    }
+    let random = &mut g.random;
+    let mut pairs: Vec<Pair> = vec![
+        related(random, MAX_WORDS, 40),
+        related(random, MAX_WORDS, 4),
+        unrelated(random, MAX_WORDS, 40),
+        unrelated(random, MAX_WORDS, 2),
+        [vec![call(0); MAX_WORDS], vec![call(0); MAX_WORDS]],
+        [periodic(MAX_WORDS, 6, 0), periodic(1_900, 9, 4)],
+    ];
+    pairs.extend((0..10).map(|_| any_pair(random, MAX_WORDS, 10)));
+    for (number, pair) in pairs.iter().enumerate() {
+        for sides in both_orders(pair) {
+            for minimum in [1, 3, 8, 256] {
+                hold(g, &format!("larger pair {number}"), sides, minimum);
+            }
+        }
+    }
+}

@@ -1,0 +1,260 @@
+//! 01's "Where earlier builds went astray", a group for each mistake that a plain engine can make.
+//! The pairs are built so that their tiles are known beforehand, apart from any tiling.
+
+use super::{compare, expect, listed, Sides};
+use crate::group::Group;
+use crate::known::Letters;
+use crate::pairs::{calls, distinct, Pair};
+use crate::random::Random;
+use crate::reference::{Tile, MAX_WORDS};
+use crate::samples::{call, NO_CALL};
+
+/// Words of the pattern and the text, and their tiles as p, t and length in the order laid.
+struct Plan {
+    pattern: Vec<u32>,
+    text: Vec<u32>,
+    tiles: Vec<[usize; 3]>,
+}
+
+impl Plan {
+    /// Puts the blocks of each side one after another.
+    fn new(pattern: &[&[u32]], text: &[&[u32]], tiles: &[[usize; 3]]) -> Self {
+        Self {
+            pattern: pattern.concat(),
+            text: text.concat(),
+            tiles: tiles.to_vec(),
+        }
+    }
+
+    /// Puts no-calls after the text, so that it is longer than the pattern by `more` words.
+    fn lengthen(mut self, more: usize) -> Self {
+        let length = self.text.len().max(self.pattern.len() + more);
+        self.text.resize(length, NO_CALL);
+        self
+    }
+
+    /// Compares the pair with either side handed in first, except that a pattern as long as the text
+    /// is always the first. Tiles below the minimum are not expected.
+    fn expect(&self, g: &mut Group, minimum: u32) {
+        let Self {
+            pattern,
+            text,
+            tiles,
+        } = self;
+        let tiles = tiles.iter().filter(|tile| tile[2] >= minimum as usize);
+        let straight: Vec<Tile> = tiles.clone().map(|&tile| tile.into()).collect();
+        let crossed: Vec<Tile> = tiles.map(|&[p, t, length]| [t, p, length].into()).collect();
+        let (n, m) = (pattern.len(), text.len());
+        assert!(n <= m, "the pattern is the shorter sequence");
+        let case = format_args!("first of {n}, second of {m} words, minimum {minimum}");
+        expect(g, case, [pattern, text], minimum, &straight);
+        if n < m {
+            let case = format_args!("first of {m}, second of {n} words, minimum {minimum}");
+            expect(g, case, [text, pattern], minimum, &crossed);
+        }
+    }
+}
+
+/// "Skipping a free stretch of exactly the minimum length": runs and free stretches one word short
+/// of the minimum, of the minimum, and one word longer.
+pub fn exact_minimum(g: &mut Group) {
+    for s in 1..=256 {
+        let minimum = s as u32;
+        for length in [s - 1, s, s + 1] {
+            let x = distinct(0, length);
+            let alone = Plan::new(&[&x], &[&x], &[[0, 0, length]]);
+            alone.expect(g, minimum);
+            let between = Plan::new(&[&x], &[&[NO_CALL], &x, &[NO_CALL]], &[[0, 1, length]]);
+            between.expect(g, minimum);
+            // K11: after the longer block is laid, the other one is all that is free.
+            let longer = distinct(length, length + 1);
+            let tiles = [[length, 0, length + 1], [0, length + 1, length]];
+            let plan = Plan::new(&[&x, &longer], &[&longer, &x], &tiles);
+            plan.expect(g, minimum);
+            plan.lengthen(1).expect(g, minimum);
+        }
+    }
+    let orders = [
+        [0, 1, 2],
+        [0, 2, 1],
+        [1, 0, 2],
+        [1, 2, 0],
+        [2, 0, 1],
+        [2, 1, 0],
+    ];
+    for s in [1, 2, 3, 4, 8] {
+        for sizes in (0..27).map(|n| [n / 9, n / 3 % 3, n % 3].map(|more| s - 1 + more)) {
+            let blocks: [Vec<u32>; 3] = std::array::from_fn(|i| distinct(100 * i, sizes[i]));
+            for order in orders {
+                let second = order.map(|i| &blocks[i][..]).concat();
+                let pair = [&blocks.concat()[..], &second];
+                let case = format_args!("blocks of {sizes:?}, order {order:?}, minimum {s}");
+                compare(g, case, pair, s as u32);
+            }
+        }
+    }
+}
+
+/// "Dropping a run partly covered by a tile, when its remainder is still long enough": the end, the
+/// start or the middle of a run is left, on the pattern, the text or both.
+pub fn remainders(g: &mut Group) {
+    let mut sizes: Vec<[usize; 3]> = (0..216)
+        .map(|n| [n / 36, n / 6 % 6, n % 6].map(|size| size + 1))
+        .collect();
+    sizes.extend([[300, 20, 256], [256, 20, 300], [300, 1, 255], [40, 256, 40]]);
+    for [a, b, c] in sizes {
+        let [block_a, block_b, block_c] =
+            [(0, a), (1_000, b), (2_000, c)].map(|(at, n)| distinct(at, n));
+        let (block_a, block_b, block_c) = (&block_a[..], &block_b[..], &block_c[..]);
+        let gap = &[NO_CALL][..];
+        let mut minimums: Vec<u32> = [1, 2, a, b, c, a + 1, b + 1, c + 1, a + b, b + c]
+            .into_iter()
+            .filter(|minimum| (1..=256).contains(minimum))
+            .map(|minimum| minimum as u32)
+            .collect();
+        minimums.sort_unstable();
+        minimums.dedup();
+
+        // Two runs share B: the longer takes it, of equal ones the earlier; A or C is left.
+        let early = a >= c;
+        let on_pattern = if early {
+            [[0, 0, a + b], [a + b, a + b + 1 + b, c]]
+        } else {
+            [[a, a + b + 1, b + c], [0, 0, a]]
+        };
+        let twice = [block_a, block_b, gap, block_b, block_c];
+        let once = [block_a, block_b, block_c];
+        let shared_on_pattern = Plan::new(&once, &twice, &on_pattern);
+        let on_text = on_pattern.map(|[p, t, length]| [t, p, length]);
+        let shared_on_text = Plan::new(&twice, &once, &on_text).lengthen(1);
+
+        let mut plans = vec![shared_on_pattern, shared_on_text];
+
+        // The run A B C loses A on the pattern to Z A and C on the text to C Y; B is left.
+        for [more_z, more_y] in [[1, 1], [1, 2], [2, 1]] {
+            let (z, y) = (b + c + more_z, a + b + more_y);
+            let [block_z, block_y] = [(3_000, z), (4_000, y)].map(|(at, n)| distinct(at, n));
+            let (block_z, block_y) = (&block_z[..], &block_y[..]);
+            let mut tiles = [
+                [0, a + b + c + y + 1, z + a],
+                [z + a + b + c + 1, a + b, c + y],
+                [z + a, a, b],
+            ];
+            if c + y > z + a {
+                tiles.swap(0, 1);
+            }
+            let pattern = [block_z, block_a, block_b, block_c, gap, block_c, block_y];
+            let text = [block_a, block_b, block_c, block_y, gap, block_z, block_a];
+            plans.push(Plan::new(&pattern, &text, &tiles).lengthen(0));
+        }
+        for plan in plans {
+            for &minimum in &minimums {
+                plan.expect(g, minimum);
+            }
+        }
+    }
+}
+
+/// 0 to `n - 1` in any order.
+fn shuffled(random: &mut Random, n: usize) -> Vec<usize> {
+    let mut order: Vec<usize> = (0..n).collect();
+    for i in (1..n).rev() {
+        order.swap(i, random.below(i + 1));
+    }
+    order
+}
+
+/// "Ordering ties by first strand when the second is the pattern": blocks of one length in another
+/// order, copies of one block, and sequences of one code.
+pub fn ties(g: &mut Group) {
+    for _ in 0..1_500 {
+        let random = &mut g.random;
+        let (count, length) = (1 + random.below(8), 1 + random.below(4));
+        let [front, more] = [(); 2].map(|()| random.below(4));
+        let place = |at: usize| at * (length + 1);
+        let order = shuffled(random, count);
+        let blocks: Vec<Vec<u32>> = (0..count)
+            .map(|i| [&distinct(100 * i, length)[..], &[NO_CALL]].concat())
+            .collect();
+        let text: Vec<&[u32]> = order.iter().map(|&i| &blocks[i][..]).collect();
+        let mut tiles = vec![[0; 3]; count];
+        for (at, &i) in order.iter().enumerate() {
+            tiles[i] = [place(i), front + place(at), length];
+        }
+        let pattern = blocks.concat();
+        let text = [vec![NO_CALL; front], text.concat()].concat();
+        let plan = Plan::new(&[&pattern], &[&text], &tiles).lengthen(more);
+        let minimum = 1 + g.random.below(length) as u32;
+        plan.expect(g, minimum);
+    }
+    for length in [1, 2, 3, 20] {
+        let block = [&distinct(0, length)[..], &[NO_CALL]].concat();
+        for n in 1..=6 {
+            for m in 1..=6 {
+                let both = (0..n.min(m)).map(|i| [i * (length + 1), i * (length + 1), length]);
+                let copies = [n, m].map(|count| block.repeat(count));
+                let plan = Plan::new(&[&copies[0]], &[&copies[1]], &both.collect::<Vec<_>>());
+                plan.lengthen(1).expect(g, length as u32);
+            }
+        }
+    }
+    let mut lengths: Vec<[usize; 2]> = (0..=40)
+        .flat_map(|m| (0..=m).map(move |n| [n, m]))
+        .collect();
+    lengths.extend([[1, MAX_WORDS], [MAX_WORDS - 1, MAX_WORDS], [MAX_WORDS; 2]]);
+    for [n, m] in lengths {
+        let plan = Plan::new(&[&vec![call(9); n]], &[&vec![call(9); m]], &[[0, 0, n]]);
+        for minimum in [1, 2, 20] {
+            plan.expect(g, minimum);
+        }
+    }
+}
+
+/// "Returning early when the shorter strand is below the minimum, with the workspace as found": also
+/// where it is empty, where nothing matches, and where each run is one word short.
+pub fn early_ends(g: &mut Group) {
+    let none = |g: &mut Group, pattern: &[u32], text: &[u32], minimum: u32| {
+        Plan::new(&[pattern], &[text], &[]).expect(g, minimum);
+    };
+    for longer in [0, 1, 2, 20, 255, 256, MAX_WORDS] {
+        let text = distinct(0, longer);
+        for shorter in [0, 1, 2, 3, 19, 20, 254, 255] {
+            for minimum in [1, 2, 3, 4, 20, 21, 255, 256] {
+                if shorter <= longer && shorter < minimum {
+                    none(g, &text[..shorter], &text, minimum as u32);
+                }
+            }
+        }
+        for minimum in [1, 2, 256] {
+            none(g, &[], &text, minimum);
+            none(g, &vec![NO_CALL; longer], &text, minimum);
+            none(g, &vec![NO_CALL; longer], &vec![NO_CALL; longer], minimum);
+            none(g, &distinct(MAX_WORDS, longer), &text, minimum);
+        }
+    }
+    for length in 1..=20 {
+        let block = [&distinct(0, length)[..], &[NO_CALL]].concat();
+        for count in 1..=4 {
+            let pattern = block.repeat(count);
+            none(g, &pattern, &block.repeat(count + 1), length as u32 + 1);
+        }
+    }
+}
+
+/// "At minimum 1, K7 is covered in full though the strands differ": calls and the same calls in any
+/// order.
+pub fn in_full(g: &mut Group) {
+    for number in 0..3_000 {
+        let random = &mut g.random;
+        let length = 1 + random.below(40);
+        let codes = random.pick(&[1, 2, 3, 6, 65_535]);
+        let first = calls(random, length, codes);
+        let order = shuffled(random, length);
+        let pair: Pair = [order.iter().map(|&i| first[i]).collect(), first];
+        let pair: Sides = [&pair[0], &pair[1]];
+        let (answer, _) = listed(pair, 1);
+        let case = format_args!("pair {number}: {}", Letters(pair[0]));
+        g.equal(case, (answer.covered, answer.score), (length as u32, 1_000));
+        compare(g, case, pair, 1);
+    }
+}

@@ -1,0 +1,14 @@
+//! What the test program and the benchmark share: the core's exported functions, a reference made
+//! apart from them, samples, and the groups of cases.
+
+pub mod comparisons;
+pub mod core;
+pub mod group;
+pub mod hashes;
+pub mod known;
+pub mod pairs;
+pub mod random;
+pub mod records;
+pub mod reference;
+pub mod samples;
+pub mod words;

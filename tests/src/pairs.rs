@@ -1,0 +1,126 @@
+//! Sequences to compare: over few codes, of codes that occur once, periodic, and edited copies.
+
+use crate::random::Random;
+use crate::samples::{call, NO_CALL};
+use std::ops::Range;
+
+/// The first and the second sequence of a comparison.
+pub type Pair = [Vec<u32>; 2];
+
+/// A call of one of the codes 1 to `codes`.
+fn letter(random: &mut Random, codes: u16) -> u32 {
+    call(1 + random.below(codes.into()) as u16)
+}
+
+/// Calls of the codes 1 to `codes`.
+pub fn calls(random: &mut Random, length: usize, codes: u16) -> Vec<u32> {
+    (0..length).map(|_| letter(random, codes)).collect()
+}
+
+/// Calls of the codes from `start` on, each once.
+pub fn distinct(start: usize, length: usize) -> Vec<u32> {
+    (start..start + length)
+        .map(|code| call(u16::try_from(code).expect("a code has 16 bits")))
+        .collect()
+}
+
+/// Calls of the codes 0 to `period - 1` over and over, beginning with the code `phase`.
+pub fn periodic(length: usize, period: usize, phase: usize) -> Vec<u32> {
+    let codes = (phase..phase + length).map(|at| (at % period) as u16);
+    codes.map(call).collect()
+}
+
+/// A stretch of 1 to `longest` words within the first `length` ones.
+fn stretch(random: &mut Random, length: usize, longest: usize) -> Range<usize> {
+    let size = 1 + random.below(longest.min(length));
+    let start = random.below(length - size + 1);
+    start..start + size
+}
+
+/// Puts a block before some word, or at the end.
+fn put_block(random: &mut Random, words: &mut Vec<u32>, block: Vec<u32>) {
+    let at = random.below(words.len() + 1);
+    words.splice(at..at, block);
+}
+
+/// Cuts a block of up to `longest` words out and puts it back elsewhere.
+fn move_block(random: &mut Random, words: &mut Vec<u32>, longest: usize) {
+    let block = words.drain(stretch(random, words.len(), longest)).collect();
+    put_block(random, words, block);
+}
+
+/// Changes a word or a block: another code, a no-call, a word more, a block less, a block moved,
+/// repeated or turned round.
+fn edit(random: &mut Random, words: &mut Vec<u32>, codes: u16) {
+    if words.is_empty() {
+        words.push(letter(random, codes));
+    }
+    let length = words.len();
+    let block = stretch(random, length, length);
+    match random.below(7) {
+        0 => words[block.start] = letter(random, codes),
+        1 => words[block.start] = NO_CALL,
+        2 => words.insert(block.start, letter(random, codes)),
+        3 => drop(words.drain(block)),
+        4 => move_block(random, words, length),
+        5 => put_block(random, words, words[block].to_vec()),
+        _ => words[block].reverse(),
+    }
+}
+
+/// A pair of up to `longest` words a side and up to `codes` codes, with or without no-calls: the
+/// second sequence is an edited copy of the first, or has nothing to do with it; at random the two
+/// are exchanged or made equally long.
+pub fn any_pair(random: &mut Random, longest: usize, codes: u16) -> Pair {
+    let side = |random: &mut Random| {
+        let length = random.below(longest + 1);
+        let mut words = calls(random, length, codes);
+        let no_calls = random.pick(&[0, 0, 1, length / 4]);
+        for _ in 0..no_calls.min(length) {
+            words[random.below(length)] = NO_CALL;
+        }
+        words
+    };
+    let mut first = side(random);
+    let mut second = if random.one_in(4) {
+        side(random)
+    } else {
+        let mut copy = first.clone();
+        for _ in 0..random.below(6) {
+            edit(random, &mut copy, codes);
+        }
+        copy
+    };
+    if random.one_in(3) {
+        let shorter = first.len().min(second.len());
+        first.truncate(shorter);
+        second.truncate(shorter);
+    }
+    second.truncate(longest);
+    if random.one_in(2) {
+        [second, first]
+    } else {
+        [first, second]
+    }
+}
+
+/// Two sequences of one length: the second is a copy of the first in which 1 word in 20 is replaced
+/// and some blocks of up to a sixteenth of the whole are moved.
+pub fn related(random: &mut Random, length: usize, codes: u16) -> Pair {
+    let first = calls(random, length, codes);
+    let mut second = first.clone();
+    for word in &mut second {
+        if random.one_in(20) {
+            *word = letter(random, codes);
+        }
+    }
+    for _ in 0..8 {
+        move_block(random, &mut second, length / 16);
+    }
+    [first, second]
+}
+
+/// Two sequences of one length that have nothing to do with one another.
+pub fn unrelated(random: &mut Random, length: usize, codes: u16) -> Pair {
+    [(); 2].map(|()| calls(random, length, codes))
+}
