@@ -18,7 +18,7 @@ loop-holds : tie.Need-loop-holds Inv-loop μ-loop
 loop-holds c = search (level-none, needs)
 
 sweep-rows-requires : tie.Need-sweep-rows-requires Inv-loop μ-loop
-sweep-rows-requires c κs = search (level-sweep, needs)
+sweep-rows-requires c κs = search level-sweep
 
 greatest-bound-requires-2 : tie.Need-greatest-bound-requires-2 Inv-loop μ-loop
 greatest-bound-requires-2 c κs = search needs
