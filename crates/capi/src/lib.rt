@@ -10,8 +10,7 @@ ghost use Rattle.symbol.specs.Sequence.{allSound};
 ghost use Rattle.record.specs.Reading.{readAnswer, readBuffer};
 ghost use Rattle.record.specs.Writing.{writeAnswer, writeBuffer};
 ghost use Rattle.window.specs.HashList.{hashAnswer, hashBuffer};
-ghost use Rattle.tiling.specs.Comparing.{plainRefusal};
-ghost use Rattle.tiling.specs.Answer.{Compares};
+ghost use Rattle.plain.specs.Promise.{Plain};
 
 // Whether two words match: both are calls with equal codes.
 #[no_mangle]
@@ -71,7 +70,7 @@ pub extern "C" fn sigxume_compare_plain(
     workspace: &mut [u32],
     tiles: &mut [u32],
 ) -> Compared
-    ensures { λ r. ⌜ Compares (plainRefusal (now (first .entry)) (now (second .entry)) minimum (length (now (workspace .entry))) (length (now (tiles .entry)))) (now (first .entry)) (now (second .entry)) minimum (now (workspace .entry)) (now (tiles .entry)) r (now (workspace .exit)) (now (tiles .exit)) ⌝ }
+    ensures { λ r. ⌜ Plain (now (first .entry)) (now (second .entry)) minimum (now (workspace .entry)) (now (tiles .entry)) r (now (workspace .exit)) (now (tiles .exit)) ⌝ }
 {
     plain::compare(first, second, minimum, workspace, tiles)
 }

@@ -1,21 +1,17 @@
--- What demand 3 says of the plain engine's own answers: its contract is `Compares` with its refusal's number, and an accepted comparison has
+-- What demand 3 says of the plain engine's own answers: it promises `Compares` with its refusal's number, and an accepted comparison has
 -- a minimum of 1 or more, so the laws of the tiling hold of the tiles in its buffer.
 -- Assumes nothing.
 use Prim.Native.Nat.{ℕ, _≤_, _^_}
 use mathlib.Core.Path.{_≡_}
 use mathlib.Core.List.{List}
 use lib.ListN.{length}
-use Rattle.tiling.specs.Comparing.{plainRefusal}
-use Rattle.tiling.specs.Answer.{Compares}
 use Rattle.tiling.specs.Greedy.{Begins}
+use Rattle.tiling.specs.Listing.{covered}
 use Rattle.tiling.specs.Demand.{long, FreeRun, smallerCounts, tilesOf, Tiled, Exchanges}
 use Rattle.tiling.specs.declared.Compared.{Compared}
 use Rattle.tiling.proofs.Comparing.{plain-minimum}
-use Rattle.tiling.proofs.Answers.{answers-number, answers-tiled, answers-no-free-run, answers-at-one, answers-exchange, answers-begin}
-
--- What a call of the engine promises.
-abbrev pub Plain : List ℕ → List ℕ → ℕ → List ℕ → List ℕ → Compared → List ℕ → List ℕ → Type 0
-Plain first second minimum ws b a ws' b' = Compares (plainRefusal first second minimum (length ws) (length b)) first second minimum ws b a ws' b'
+use Rattle.tiling.proofs.Answers.{answers-number, answers-covered, answers-within-first, answers-within-second, answers-tiled, answers-no-free-run, answers-at-one, answers-exchange, answers-begin}
+use Rattle.plain.specs.Promise.{Plain}
 
 module _ {first second : List ℕ} {minimum : ℕ} {ws b : List ℕ} {a : Compared} {ws' b' : List ℕ} (c : Plain first second minimum ws b a ws' b') (accepted : a .refusal ≡ 0) where
   least : 1 ≤ minimum
@@ -33,6 +29,16 @@ module _ {first second : List ℕ} {minimum : ℕ} {ws b : List ℕ} {a : Compar
   -- At minimum 1 covered is the sum, over all codes, of the smaller number of calls.
   pub plain-at-one : minimum ≡ 1 → a .covered ≡ smallerCounts (2 ^ 16) first second
   plain-at-one = answers-at-one c accepted
+
+  -- Covered is the sum of the lengths of the tiles listed, and at most each length.
+  pub plain-covered : a .covered ≡ covered (tilesOf a b')
+  plain-covered = answers-covered c accepted
+
+  pub plain-within-first : a .covered ≤ length first
+  plain-within-first = answers-within-first c accepted least
+
+  pub plain-within-second : a .covered ≤ length second
+  plain-within-second = answers-within-second c accepted least
 
 -- Where the lengths differ, exchanging the sequences only exchanges the sides of each tile.
 pub plain-exchange : {first second : List ℕ} {minimum : ℕ} {ws b ws₁ b₁ : List ℕ} {a a' : Compared} {ws' b' ws₁' b₁' : List ℕ} → Plain first second minimum ws b a ws' b' → Plain second first minimum ws₁ b₁ a' ws₁' b₁' → a .refusal ≡ 0 → a' .refusal ≡ 0 → (length first ≡ length second → ⊥) → Exchanges a b' a' b₁'

@@ -12,12 +12,12 @@ ghost use lib.ListN.{length, drop};
 ghost use Rattle.tiling.specs.Tiling.{start, tiling};
 ghost use Rattle.tiling.specs.Listing.{listing};
 ghost use Rattle.tiling.specs.Comparing.{plainRefusal};
-ghost use Rattle.tiling.specs.Answer.{Compares};
 ghost use Rattle.tile.specs.Listed.{listed};
 ghost use Rattle.sweep.specs.Workspace.{Space, state};
 ghost use Rattle.sweep.specs.Row.{Row};
 ghost use Rattle.sweep.specs.Progress.{Filled, Ready, Sweeping, Onward, Finished};
 ghost use Rattle.sweep.specs.Result.{Listed, Checked};
+ghost use Rattle.plain.specs.Promise.{Plain};
 ghost use Rattle.plain.specs.Scanned.{Scanned};
 
 // The first position from `from` on that holds w, or the end.
@@ -203,7 +203,7 @@ pub fn compare(
     workspace: &mut [u32],
     tiles: &mut [u32],
 ) -> Compared
-    ensures { λ r. ⌜ Compares (plainRefusal (now (first .entry)) (now (second .entry)) minimum (length (now (workspace .entry))) (length (now (tiles .entry)))) (now (first .entry)) (now (second .entry)) minimum (now (workspace .entry)) (now (tiles .entry)) r (now (workspace .exit)) (now (tiles .exit)) ⌝ }
+    ensures { λ r. ⌜ Plain (now (first .entry)) (now (second .entry)) minimum (now (workspace .entry)) (now (tiles .entry)) r (now (workspace .exit)) (now (tiles .exit)) ⌝ }
 {
     let refusal = plain_refusal(first, second, minimum, workspace.len(), tiles.len());
     if refusal != 0 {

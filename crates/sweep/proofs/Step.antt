@@ -8,23 +8,23 @@ use native.Mathlib.Decide.{decLt, ℕ-discrete}
 use native.Mathlib.Omega.{arith}
 use mathlib.Core.Path.{_≡_, refl, sym, _∙_, ap, subst}
 use mathlib.Core.Bool.{Bool, true, false}
-use mathlib.Core.List.{List, [], _∷_, _++_, map, append-assoc}
-use lib.ListN.{length, take, drop, getD, set, length-append, length-map, length-set, length-drop, length-take}
+use mathlib.Core.List.{List, [], _∷_, _++_, map, append-assoc, map-append}
+use lib.ListN.{length, take, drop, getD, set, length-append, length-map, length-set, length-drop}
 use lib.Seq.{getD-set-same, getD-set-other, getD-drop}
 use Rattle.symbol.specs.Word.{isCall}
 use Rattle.buffer.specs.Buffer.{onto}
-use Rattle.buffer.proofs.Buffer.{length-onto}
 use Rattle.tiling.specs.Run.{run, mark}
 use Rattle.tiling.specs.Tiling.{Tile, State, runAt, best, size, lay}
-use Rattle.tiling.specs.Listing.{Entry, tileWords, covered}
-use Rattle.tiling.proofs.Run.{zero-left, run-match, mark-inside}
+use Rattle.tiling.specs.Listing.{tileWords, covered}
+use Rattle.tiling.proofs.Run.{zero-left, mark-inside}
 use Rattle.tiling.specs.Tally.{tally}
 use Rattle.tiling.proofs.Greedy.{Greedy, more}
 use Rattle.tiling.proofs.Best.{Best, best-is, best-only, past-pattern}
 use Rattle.tiling.proofs.Marked.{lay-shrinks}
 use Rattle.tiling.proofs.Tiling.{Lies, best-lies, zero-no-call, takes-tile}
 use Rattle.tile.specs.Listed.{listed}
-use Rattle.tile.proofs.Tail.{listed-more}
+use Rattle.tile.proofs.Measure.{run-most}
+use Rattle.tile.proofs.Tail.{covered-append, length-listed, listed-more}
 use Rattle.sweep.specs.Workspace.{Space, state, boundsFrom, bound, laid}
 use Rattle.sweep.specs.Progress.{Onward, Bounded, Sweeping, Searched}
 use Rattle.sweep.specs.declared.Job.{Job}
@@ -33,35 +33,9 @@ use Rattle.sweep.specs.declared.Totals.{Totals}
 use Rattle.sweep.proofs.Row.{row-small}
 use Rattle.sweep.proofs.Workspace.{state-set, state-laid, length-laid, space-kept, pattern-length, text-length, bound-covered, bound-before, bound-after}
 
--- ---- lists of tiles
-map-append : {A B : Type 0} (g : A → B) (xs ys : List A) → map g (xs ++ ys) ≡ map g xs ++ map g ys
-map-append g [] ys = refl
-map-append g (x ∷ xs) ys = ap (λ zs. g x ∷ zs) (map-append g xs ys)
-
-covered-append : (es : List Entry) (e : Entry) → covered (es ++ (e ∷ [])) ≡ covered es + e .len
-unfolding covered
-covered-append [] e = omega arith
-covered-append (d ∷ es) e = omega (arith, covered-append es e)
-
--- One tile more takes no room from the buffer.
-length-listed : (count : ℕ) (b : List ℕ) (x : Entry) → 3 * (count + 1) ≤ length b → length (take (3 * count) b ++ onto (tileWords (x ∷ [])) (drop (3 * count) b)) ≡ length b
-unfolding tileWords
-length-listed count b x h =
-    let w = tileWords (x ∷ []) in
-    let d = length-drop (3 * count) b in
-    let o : length (onto w (drop (3 * count) b)) ≡ length (drop (3 * count) b) = length-onto w (drop (3 * count) b) (omega (arith, d)) in
-    omega (arith, length-append (take (3 * count) b) (onto w (drop (3 * count) b)), o, d, length-take (3 * count) b)
-
 -- A row whose first word is marked has no run.
 run-zero : (ps ts : List ℕ) → getD ps 0 0 ≡ 0 → run ps ts ≡ 0
-run-zero ps ts e = go (decLt 0 (run ps ts))
-  where
-    go : Dec (0 < run ps ts) → run ps ts ≡ 0
-    go (yes h) = let m = run-match ps ts 0 h in absurd (clash (sym (rw e at m) ∙ zero-left (getD ts 0 0)))
-      where
-        clash : true ≡ false → ⊥
-        clash k = let z : _≡_ {A = ℕ} 0 1 = cc in omega arith
-    go (no h) = omega (arith, h)
+run-zero ps ts e = omega (arith, run-most ps ts 0 (rw e (zero-left (getD ts 0 0))))
 
 -- No run exceeds the level.
 pub below-level : (j : Job) (ws : List ℕ) (level p : ℕ) → Space j ws → Bounded j ws level p → (q t : ℕ) → runAt (state j ws) q t ≤ level
@@ -271,7 +245,7 @@ module _ (j : Job) (level p : ℕ) (ws b : List ℕ) (k : Totals) (f : Found) (s
                   space = space-kept j ws (laid j p (f .t .0) level ws) (length-laid j ws p (f .t .0) level) (s .fits .space);
                   least = s .fits .least;
                   most = s .fits .most;
-                  tile-room = rw (same-room) (s .fits .tile-room);
+                  tile-room = rw same-room (s .fits .tile-room);
                   each = each-after;
                   free = free-after;
                 };
@@ -289,6 +263,7 @@ module _ (j : Job) (level p : ℕ) (ws b : List ℕ) (k : Totals) (f : Found) (s
           same-room = ap length e ∙ length-listed (k .count) b (listed (j .straight) (record { p = p; t = f .t .0; len = level })) tile-fits
 
       stepped-onward : Onward j ws b k (laid j p (f .t .0) level ws) b' (record { count = k .count + 1; covered = k .covered + level })
+      unfolding covered
       stepped-onward =
           record {
             keeps = λ s₀ b₀ l.
@@ -297,7 +272,7 @@ module _ (j : Job) (level p : ℕ) (ws b : List ℕ) (k : Totals) (f : Found) (s
                   rest = λ ls g. rw (append-assoc (l .tiles) (next ∷ []) ls) (l .rest (next ∷ ls) (lay-next ls g));
                   held = e ∙ (rw (l .held, l .counted, map-append (listed (j .straight)) (l .tiles) (next ∷ []), ← length-map (l .tiles) (listed (j .straight))) (listed-more (map (listed (j .straight)) (l .tiles)) (listed (j .straight) next ∷ []) b₀));
                   counted = rw (length-append (l .tiles) (next ∷ []), l .counted) refl;
-                  summed = rw (map-append (listed (j .straight)) (l .tiles) (next ∷ []), covered-append (map (listed (j .straight)) (l .tiles)) (listed (j .straight) next), ← l .summed) (one-more (j .straight));
+                  summed = rw (map-append (listed (j .straight)) (l .tiles) (next ∷ []), covered-append (map (listed (j .straight)) (l .tiles)) (listed (j .straight) next ∷ []), ← l .summed) (one-more (j .straight));
                 };
           }
         where
@@ -308,9 +283,9 @@ module _ (j : Job) (level p : ℕ) (ws b : List ℕ) (k : Totals) (f : Found) (s
               let m : j .minimum ≤ size (best (state j ws)) = omega (arith, ap size next-is, s .long) in
               subst (λ k. Greedy best size lay (j .minimum) (state j ws) (k ∷ ls)) next-is (more m h)
 
-          one-more : (straight : Bool) → k .covered + level ≡ k .covered + listed straight next .len
-          one-more true = refl
-          one-more false = refl
+          one-more : (straight : Bool) → k .covered + level ≡ k .covered + covered (listed straight next ∷ [])
+          one-more true = omega arith
+          one-more false = omega arith
 
       module _ (ws' : List ℕ) (w : ws' ≡ laid j p (f .t .0) level ws) where
         pub stepped-sweep : Sweeping j level (p + 1) ws' b' (record { count = k .count + 1; covered = k .covered + level })

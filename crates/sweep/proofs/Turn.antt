@@ -82,12 +82,16 @@ pub level-none : (j : Job) (n : ℕ) (ws b : List ℕ) (k : Totals) (level : ℕ
 level-none j n ws b k level h r g =
     record { ready = r; enough = h; greatest = g; onward = onward-none j ws b k; same-room = refl; same-tiles = refl }
 
--- No bound exceeds the greatest, so a sweep can begin.
+-- No bound exceeds the greatest.
+unswept : (j : Job) (n : ℕ) (ws₀ b₀ : List ℕ) (k₀ : Totals) (ws b : List ℕ) (k : Totals) (level : ℕ) → Level j n ws₀ b₀ k₀ ws b k level → Bounded j ws level 0
+unswept j n ws₀ b₀ k₀ ws b k level l = record { upper = l .ready .upper; capped = l .greatest .most; passed = λ q m. absurd (not-suc-le-zero m) }
+
+-- So a sweep can begin.
 pub level-sweep : (j : Job) (n : ℕ) (ws₀ b₀ : List ℕ) (k₀ : Totals) (ws b : List ℕ) (k : Totals) (level : ℕ) → Level j n ws₀ b₀ k₀ ws b k level → n ≤ level → Sweeping j level 0 ws b k
 level-sweep j n ws₀ b₀ k₀ ws b k level l h =
     record {
       fits = l .ready .fits;
-      bounded = record { upper = l .ready .upper; capped = l .greatest .most; passed = λ q m. absurd (not-suc-le-zero m) };
+      bounded = unswept j n ws₀ b₀ k₀ ws b k level l;
       long = omega (arith, l .enough);
       within = omega arith;
     }
@@ -112,7 +116,7 @@ module _ (j : Job) (level : ℕ) (ws' b' : List ℕ) (k' : Totals) (s : Sweeping
 pub level-done : (j : Job) (n : ℕ) (ws₀ b₀ : List ℕ) (k₀ : Totals) (ws b : List ℕ) (k : Totals) (level : ℕ) → Level j n ws₀ b₀ k₀ ws b k level → level < n → Finished j n ws₀ b₀ k₀ ws b k
 level-done j n ws₀ b₀ k₀ ws b k level l h =
     let s = state j ws in
-    let none : Bounded j ws level 0 = record { upper = l .ready .upper; capped = l .greatest .most; passed = λ q m. absurd (not-suc-le-zero m) } in
+    let none = unswept j n ws₀ b₀ k₀ ws b k level l in
     record {
       fits = l .ready .fits;
       onward = l .onward;

@@ -1,15 +1,16 @@
 -- Words written to the start of a list's tail: what lies before the tail stays, and so does what lies beyond the words.
 -- Assumes nothing.
-use Prim.Native.Nat.{ℕ, _*_, _-_, _≤_}
+use Prim.Native.Nat.{ℕ, _+_, _*_, _-_, _≤_}
 use native.Mathlib.Nat.{not-suc-le-zero, le-of-suc-le-suc}
 use native.Mathlib.Omega.{arith}
 use mathlib.Core.Path.{_≡_, refl}
 use mathlib.Core.Bool.{Bool, true, false}
 use mathlib.Core.List.{List, [], _∷_, _++_, append-assoc, append-nil}
-use lib.ListN.{length, take, drop, set, length-append, length-drop, drop-of-length-le}
+use lib.ListN.{length, take, drop, set, length-append, length-take, length-drop, drop-of-length-le}
 use lib.Seq.{take-all, take-at, drop-at, drop-drop}
 use Rattle.buffer.specs.Buffer.{onto}
-use Rattle.tiling.specs.Listing.{Entry, tileWords}
+use Rattle.buffer.proofs.Buffer.{length-onto}
+use Rattle.tiling.specs.Listing.{Entry, tileWords, covered}
 use Rattle.tile.specs.Listed.{listed}
 
 -- Three words stored one by one.
@@ -65,3 +66,18 @@ length-tileWords (e ∷ es) = omega (arith, length-tileWords es)
 -- What list_tile leaves is the buffer with one tile more.
 pub listed-more : (es fs : List Entry) (b : List ℕ) → take (3 * length es) (onto (tileWords es) b) ++ onto (tileWords fs) (drop (3 * length es) (onto (tileWords es) b)) ≡ onto (tileWords (es ++ fs)) b
 listed-more es fs b = rw (tileWords-append es fs) (onto-tail (tileWords es) (tileWords fs) b (3 * length es) (length-tileWords es))
+
+-- And the buffer is as long as it was.
+pub length-listed : (count : ℕ) (b : List ℕ) (x : Entry) → 3 * (count + 1) ≤ length b → length (take (3 * count) b ++ onto (tileWords (x ∷ [])) (drop (3 * count) b)) ≡ length b
+length-listed count b x h =
+    let w = tileWords (x ∷ []) in
+    let d = length-drop (3 * count) b in
+    let o : length (onto w (drop (3 * count) b)) ≡ length (drop (3 * count) b) =
+    length-onto w (drop (3 * count) b) (omega (arith, d, length-tileWords (x ∷ []))) in
+    omega (arith, length-append (take (3 * count) b) (onto w (drop (3 * count) b)), o, d, length-take (3 * count) b)
+
+-- What is covered, with more tiles.
+pub covered-append : (es fs : List Entry) → covered (es ++ fs) ≡ covered es + covered fs
+unfolding covered
+covered-append [] fs = omega arith
+covered-append (e ∷ es) fs = omega (arith, covered-append es fs)

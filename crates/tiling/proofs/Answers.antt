@@ -7,12 +7,11 @@ use mathlib.Core.Path.{_≡_, refl, sym, _∙_, ap}
 use mathlib.Core.List.{List, [], _∷_, _++_, map}
 use lib.ListN.{length, drop, replicate}
 use Rattle.buffer.specs.Buffer.{onto}
-use Rattle.tiling.specs.Each.{Each, Pairs}
 use Rattle.tiling.specs.Greedy.{Begins}
 use Rattle.tiling.specs.Listing.{Entry, listing, tileWords, covered, score}
 use Rattle.tiling.specs.declared.Compared.{Compared}
 use Rattle.tiling.specs.Answer.{compared, Compares}
-use Rattle.tiling.specs.Demand.{FreeRun, Stands, Apart, onFirst, onSecond, long, smallerCounts, exchanged, tilesIn, tilesOf, Tiled, Exchanges}
+use Rattle.tiling.specs.Demand.{FreeRun, long, smallerCounts, exchanged, tilesIn, tilesOf, Tiled, Exchanges}
 use Rattle.tiling.proofs.Demand.{listing-tiled, listing-begins, exchange, exchange-count, exchange-covered, exchange-score}
 
 -- Tiles written to the start of a buffer are read back.
@@ -54,25 +53,13 @@ module _ {r : ℕ} {first second : List ℕ} {minimum : ℕ} {ws b : List ℕ} {
   pub answers-tiled : 1 ≤ minimum → Tiled first second minimum (tilesOf a b')
   answers-tiled one = rw answers-listed (listing-tiled first second minimum one)
 
-  -- One by one.
   pub answers-no-free-run : 1 ≤ minimum → (i j : ℕ) → FreeRun first second (tilesOf a b') minimum i j → ⊥
   answers-no-free-run one = answers-tiled one .no-free-run
 
   pub answers-at-one : minimum ≡ 1 → a .covered ≡ smallerCounts (2 ^ 16) first second
   answers-at-one e = answers-covered ∙ answers-tiled (omega (arith, e)) .at-one e
 
-  pub answers-stand : 1 ≤ minimum → Each (Stands first second) (tilesOf a b')
-  answers-stand one = answers-tiled one .stands
-
-  pub answers-fall : 1 ≤ minimum → Pairs (λ d e. e .len ≤ d .len) (tilesOf a b')
-  answers-fall one = answers-tiled one .falling
-
-  pub answers-apart-first : 1 ≤ minimum → Pairs (Apart onFirst long) (tilesOf a b')
-  answers-apart-first one = answers-tiled one .apart-first
-
-  pub answers-apart-second : 1 ≤ minimum → Pairs (Apart onSecond long) (tilesOf a b')
-  answers-apart-second one = answers-tiled one .apart-second
-
+  -- Covered is at most each length.
   pub answers-within-first : 1 ≤ minimum → a .covered ≤ length first
   answers-within-first one = omega (arith, answers-covered, answers-tiled one .within-first)
 

@@ -12,7 +12,7 @@ use lib.ListN.{length}
 use Rattle.symbol.specs.Sequence.{allSound, tooLong}
 use Rattle.symbol.specs.Refusal.{refuse}
 use Rattle.symbol.proofs.Refusal.{clear, Part, part-end, part-cause, part-stops, part-goes}
-use Rattle.tiling.specs.Comparing.{sequences, minimums, room, plainRefusal, fastRefusal}
+use Rattle.tiling.specs.Comparing.{sequences, minimums, room, plainRefusal}
 
 -- ---- no cause holds
 pub record SequencesClear (first second : List ℕ) (later : ℕ) : Type 0 where
@@ -67,9 +67,6 @@ room-clear n m minimum workspace tiles e =
 -- An accepted comparison has a minimum of 1 or more.
 pub plain-minimum : (first second : List ℕ) (minimum workspace tiles : ℕ) → plainRefusal first second minimum workspace tiles ≡ 0 → 1 ≤ minimum
 plain-minimum first second minimum workspace tiles e = minimums-clear minimum _ (sequences-clear first second _ e .rest) .least
-
-pub fast-minimum : (first second : List ℕ) (minimum buckets begin workspace tiles : ℕ) → fastRefusal first second minimum buckets begin workspace tiles ≡ 0 → 1 ≤ minimum
-fast-minimum first second minimum buckets begin workspace tiles e = minimums-clear minimum _ (sequences-clear first second _ e .rest) .least
 
 -- The same of the numbers that the code of the parts answered.
 pub first-short-of : (first second : List ℕ) (q : ℕ) → q ≡ sequences first second 0 → q ≡ 0 → length first ≤ 2048
