@@ -64,6 +64,20 @@ extern "C" {
         tiles: *mut u32,
         tiles_len: usize,
     ) -> Compared;
+    fn sigxume_compare_fast(
+        first: *const u32,
+        first_len: usize,
+        second: *const u32,
+        second_len: usize,
+        minimum: u32,
+        multiplier: u32,
+        buckets: u32,
+        start: u32,
+        workspace: *mut u32,
+        workspace_len: usize,
+        tiles: *mut u32,
+        tiles_len: usize,
+    ) -> Compared;
 }
 
 /// Whether two words match.
@@ -123,6 +137,42 @@ pub fn compare_plain(
             second.as_ptr(),
             second.len(),
             minimum,
+            workspace.as_mut_ptr(),
+            workspace.len(),
+            tiles.as_mut_ptr(),
+            tiles.len(),
+        )
+    }
+}
+
+/// How the fast engine searches. The answer does not depend on it.
+#[derive(Clone, Copy, Debug, PartialEq, Eq)]
+pub struct Settings {
+    pub multiplier: u32,
+    pub buckets: u32,
+    /// The first search length.
+    pub start: u32,
+}
+
+/// Compares two sequences by the fast engine; the tiles go to the start of `tiles`.
+pub fn compare_fast(
+    first: &[u32],
+    second: &[u32],
+    minimum: u32,
+    settings: Settings,
+    workspace: &mut [u32],
+    tiles: &mut [u32],
+) -> Compared {
+    unsafe {
+        sigxume_compare_fast(
+            first.as_ptr(),
+            first.len(),
+            second.as_ptr(),
+            second.len(),
+            minimum,
+            settings.multiplier,
+            settings.buckets,
+            settings.start,
             workspace.as_mut_ptr(),
             workspace.len(),
             tiles.as_mut_ptr(),
