@@ -34,3 +34,8 @@ pub record Indexed (j : Job) (s k : ℕ) (ws heads : List ℕ) (seen : List Bool
   pub head-bucket : (b : ℕ) → b < 1024 → getD heads b 0 < j .m → bucket k (textHash j ws (getD heads b 0)) ≡ b
   pub link-bucket : (v : ℕ) → v < j .m → link j ws v < j .m → bucket k (textHash j ws (link j ws v)) ≡ bucket k (textHash j ws v)
   pub rising : (v : ℕ) → v < j .m → v < link j ws v
+
+-- The index was built, and the sequences are as they were.
+pub record Built (j : Job) (s k : ℕ) (ws ws' heads : List ℕ) (seen : List Bool) : Type 0 where
+  pub same : state j ws' ≡ state j ws
+  pub indexed : Indexed j s k ws' heads seen
