@@ -1,7 +1,7 @@
 // The checks that come before a comparison. Each answers the number of its own refusal, or 0.
 ghost use mathlib.Core.Path.{_≡_};
 ghost use Prim.Native.Nat.{_/_, _≤_, min};
-ghost use Rattle.tiling.specs.Comparing.{sequences, minimums, room};
+ghost use Rattle.tiling.specs.Comparing.{sequences, minimums, settings, room};
 
 // The checks of the sequences: 1 for more than 2,048 words, 2 for an unsound word.
 pub fn sequences_refusal(first: &[u32], second: &[u32]) -> u32
@@ -31,6 +31,26 @@ pub fn minimum_refusal(minimum: u32) -> u32
     }
     if 256 < minimum {
         return 3;
+    }
+    0
+}
+
+// The checks of the search's settings: 4 for a bucket count outside 1 to 1,024, 5 for a first search length below the minimum
+// or above 2,048.
+pub fn settings_refusal(minimum: u32, buckets: u32, start: u32) -> u32
+    ensures { λ r. ⌜ r ≡ settings minimum buckets start 0 ⌝ }
+{
+    if buckets == 0 {
+        return 4;
+    }
+    if 1024 < buckets {
+        return 4;
+    }
+    if start < minimum {
+        return 5;
+    }
+    if 2048 < start {
+        return 5;
     }
     0
 }

@@ -12,7 +12,7 @@ use lib.ListN.{length}
 use Rattle.symbol.specs.Sequence.{allSound, tooLong}
 use Rattle.symbol.specs.Refusal.{refuse}
 use Rattle.symbol.proofs.Refusal.{clear, Part, part-end, part-cause, part-stops, part-goes}
-use Rattle.tiling.specs.Comparing.{sequences, minimums, room, plainRefusal}
+use Rattle.tiling.specs.Comparing.{sequences, minimums, settings, room, plainRefusal, fastRefusal}
 
 -- ---- no cause holds
 pub record SequencesClear (first second : List ℕ) (later : ℕ) : Type 0 where
@@ -51,6 +51,27 @@ minimums-clear minimum later e =
       rest = b .rest;
     }
 
+pub record SettingsClear (minimum buckets start later : ℕ) : Type 0 where
+  pub some-bucket : 1 ≤ buckets
+  pub few-buckets : buckets ≤ 1024
+  pub start-least : minimum ≤ start
+  pub start-most : start ≤ 2048
+  pub rest : later ≡ 0
+
+pub settings-clear : (minimum buckets start later : ℕ) → settings minimum buckets start later ≡ 0 → SettingsClear minimum buckets start later
+settings-clear minimum buckets start later e =
+    let a = clear (eqb buckets 0) 4 (refuse (ltb 1024 buckets) 4 (refuse (ltb start minimum) 5 (refuse (ltb 2048 start) 5 later))) (omega arith) e in
+    let b = clear (ltb 1024 buckets) 4 (refuse (ltb start minimum) 5 (refuse (ltb 2048 start) 5 later)) (omega arith) (a .rest) in
+    let c = clear (ltb start minimum) 5 (refuse (ltb 2048 start) 5 later) (omega arith) (b .rest) in
+    let d = clear (ltb 2048 start) 5 later (omega arith) (c .rest) in
+    record {
+      some-bucket = omega (arith, eqb-false buckets 0 (a .first));
+      few-buckets = ltb-false 1024 buckets (b .first);
+      start-least = ltb-false start minimum (c .first);
+      start-most = ltb-false 2048 start (d .first);
+      rest = d .rest;
+    }
+
 pub record RoomClear (n m minimum workspace tiles : ℕ) : Type 0 where
   pub work-room : 4 * (n + m) ≤ workspace
   pub tile-room : 3 * (min n m / minimum) ≤ tiles
@@ -67,6 +88,9 @@ room-clear n m minimum workspace tiles e =
 -- An accepted comparison has a minimum of 1 or more.
 pub plain-minimum : (first second : List ℕ) (minimum workspace tiles : ℕ) → plainRefusal first second minimum workspace tiles ≡ 0 → 1 ≤ minimum
 plain-minimum first second minimum workspace tiles e = minimums-clear minimum _ (sequences-clear first second _ e .rest) .least
+
+pub fast-minimum : (first second : List ℕ) (minimum buckets start workspace tiles : ℕ) → fastRefusal first second minimum buckets start workspace tiles ≡ 0 → 1 ≤ minimum
+fast-minimum first second minimum buckets start workspace tiles e = minimums-clear minimum _ (sequences-clear first second _ e .rest) .least
 
 -- The same of the numbers that the code of the parts answered.
 pub first-short-of : (first second : List ℕ) (q : ℕ) → q ≡ sequences first second 0 → q ≡ 0 → length first ≤ 2048
@@ -88,6 +112,12 @@ sequences-part first second =
 pub minimums-part : (minimum : ℕ) → Part (minimums minimum)
 minimums-part minimum = part-cause _ (eqb minimum 0) 3 (omega arith) (part-cause _ (ltb 256 minimum) 3 (omega arith) part-end)
 
+pub settings-part : (minimum buckets start : ℕ) → Part (settings minimum buckets start)
+settings-part minimum buckets start =
+    part-cause _ (eqb buckets 0) 4 (omega arith)
+    (part-cause _ (ltb 1024 buckets) 4 (omega arith)
+    (part-cause _ (ltb start minimum) 5 (omega arith) (part-cause _ (ltb 2048 start) 5 (omega arith) part-end)))
+
 -- A cause of the sequences stops the chain, then one of the minimum, and then what comes later decides.
 module _ (first second : List ℕ) (minimum later q : ℕ) (of-sequences : q ≡ sequences first second 0) where
   pub sequences-refused : (q ≡ 0 → ⊥) → q ≡ sequences first second (minimums minimum later)
@@ -103,3 +133,15 @@ module _ (first second : List ℕ) (minimum later q : ℕ) (of-sequences : q ≡
     later-decides e z k =
         part-goes (sequences first second) (sequences-part first second) q z (minimums minimum later) of-sequences passed
         (part-goes (minimums minimum) (minimums-part minimum) r z later of-minimum e k)
+
+-- With the search's settings between: a cause of them stops the chain, and then what comes last decides.
+module _ (first second : List ℕ) (minimum buckets start last q : ℕ) (of-sequences : q ≡ sequences first second 0) (passed : q ≡ 0) (r : ℕ) (of-minimum : r ≡ minimums minimum 0) (e : r ≡ 0) (v : ℕ) (of-settings : v ≡ settings minimum buckets start 0) where
+  pub settings-refused : (v ≡ 0 → ⊥) → v ≡ sequences first second (minimums minimum (settings minimum buckets start last))
+  settings-refused d =
+      later-decides first second minimum (settings minimum buckets start last) q of-sequences passed r of-minimum e v
+      (part-stops (settings minimum buckets start) (settings-part minimum buckets start) v last of-settings d)
+
+  pub last-decides : v ≡ 0 → (z : ℕ) → z ≡ last → z ≡ sequences first second (minimums minimum (settings minimum buckets start last))
+  last-decides k z h =
+      later-decides first second minimum (settings minimum buckets start last) q of-sequences passed r of-minimum e z
+      (part-goes (settings minimum buckets start) (settings-part minimum buckets start) v z last of-settings k h)
