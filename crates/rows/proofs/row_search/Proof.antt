@@ -1,0 +1,69 @@
+-- `rows::row_search` meets its contract: at the head of each turn what was found is the longest of the runs before t, or the floor.
+-- Assumes nothing.
+use Rattle.rows.proofs.Walk.{Walked, walk-alike, walk-low, walk-unknown, walk-none, walk-more, walk-rises, walk-end, walk-cap}
+use Prim.Native.Nat.{_-_}
+use borrow.Author.Tests.{ltb-true, ltb-false, not-true}
+use borrow.Author.Needs.{needs}
+use Rattle.rows.proofs.row_search.Statement.{statement}
+use Rattle.rows.proofs.row_search.Tie as tie
+
+abbrev Inv-loop : tie.InvT-loop
+Inv-loop ws job s buckets heads seen p floor cap found₀ own t₀ found t = Walked job s buckets ws (p .0) floor t found
+
+abbrev μ-loop : tie.MeasureT-loop
+μ-loop ws job s buckets heads seen p floor cap found₀ own t₀ found t = job .m - t
+
+pattern-hash-requires : tie.Need-pattern-hash-requires Inv-loop μ-loop
+pattern-hash-requires c κs = search needs
+
+knows-requires : tie.Need-knows-requires Inv-loop μ-loop
+knows-requires c κs = search needs
+
+returns : tie.Need-returns Inv-loop μ-loop
+returns c = search (walk-unknown, not-true)
+
+bucket-of-requires : tie.Need-bucket-of-requires Inv-loop μ-loop
+bucket-of-requires c κs = search needs
+
+first-text-requires : tie.Need-first-text-requires Inv-loop μ-loop
+first-text-requires c κs = search needs
+
+loop-holds : tie.Need-loop-holds Inv-loop μ-loop
+loop-holds c = search walk-none
+
+look-requires : tie.Need-look-requires Inv-loop μ-loop
+look-requires c κs = (search needs, search walk-alike, search needs, search needs, search needs, search walk-low, search needs)
+
+next-text-requires : tie.Need-next-text-requires Inv-loop μ-loop
+next-text-requires c κs = search needs
+
+loop-less : tie.Need-loop-less Inv-loop μ-loop
+loop-less c = search walk-rises
+
+loop-again : tie.Need-loop-again Inv-loop μ-loop
+loop-again c = search walk-more
+
+returns-2 : tie.Need-returns-2 Inv-loop μ-loop
+returns-2 c = search (walk-cap, ltb-false)
+
+returns-3 : tie.Need-returns-3 Inv-loop μ-loop
+returns-3 c = search walk-end
+
+pub row-search-spec : {M : Type 1} → statement M
+row-search-spec =
+    tie.close
+    (tie.spec
+    Inv-loop
+    μ-loop
+    pattern-hash-requires
+    knows-requires
+    returns
+    bucket-of-requires
+    first-text-requires
+    loop-holds
+    look-requires
+    next-text-requires
+    loop-less
+    loop-again
+    returns-2
+    returns-3)
