@@ -1,1 +1,2 @@
 pub mod Bucket
+pub mod Kept

@@ -27,6 +27,7 @@ slot h = h / 65536 % 16384
 -- and walking from the head of its bucket never steps over that position of the text. Past the last position stands a number that is not
 -- below the text's length.
 pub record Indexed (j : Job) (s k : ℕ) (ws heads : List ℕ) (seen : List Bool) : Type 0 where
+  pub least : 1 ≤ s
   pub kin : (p u : ℕ) → s ≤ runAt (state j ws) p u → textHash j ws u ≡ patternHash j ws p
   pub known : (p u : ℕ) → s ≤ runAt (state j ws) p u → getD seen (slot (patternHash j ws p)) false ≡ true
   pub head : (p u : ℕ) → s ≤ runAt (state j ws) p u → getD heads (bucket k (patternHash j ws p)) 0 ≤ u

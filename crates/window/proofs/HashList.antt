@@ -1,15 +1,15 @@
 -- The list of hashes as the code makes it: the hashes before i stand in the buffer, and rolling the hash at i gives that at i + 1.
 -- Assumes nothing.
-use Prim.Native.Nat.{ℕ, zero, suc, _+_, _-_, _%_, _^_, _≤_, _<_}
+use Prim.Native.Nat.{ℕ, zero, suc, _+_, _-_, _*_, _%_, _^_, _≤_, _<_}
 use native.Mathlib.Nat.{sub-zero, pos-of-ne-zero}
 use native.Mathlib.Omega.{arith}
 use native.Mathlib.Numerals.{add-one}
-use mathlib.Core.Path.{_≡_, refl, sym, _∙_}
+use mathlib.Core.Path.{_≡_, refl, sym, _∙_, ap}
 use mathlib.Core.Bool.{not}
 use mathlib.Core.List.{List, [], _∷_, _++_}
 use lib.Dec.{eqb, ltb}
-use lib.ListN.{length, take, drop, getD, set, length-drop, length-set}
-use lib.Seq.{take-suc, drop-cons, getD-drop, length-take-le}
+use lib.ListN.{length, take, drop, getD, set, length-drop, length-set, length-take, take-append-drop}
+use lib.Seq.{take-suc, drop-cons, getD-drop, length-take-le, take-take, getD-take, take-set-le, drop-set-add}
 use borrow.Author.Tests.{eqb-false, ltb-false}
 use Rattle.symbol.specs.Sequence.{allSound, tooLong}
 use Rattle.buffer.specs.Buffer.{onto, tabulate}
@@ -85,6 +85,53 @@ module _ (B s : ℕ) (words b₀ b : List ℕ) (h i : ℕ) (inv : Filled B s wor
         same = length-set b i h ∙ inv .same;
         current = hash-next B s words p h r i least q less (inv .current) roll;
       }
+
+-- ---- the loop of hash_windows: the same, where words and buffer are the two parts of one workspace
+pub record Beside (B s total : ℕ) (ws₀ ws : List ℕ) (h i : ℕ) : Type 0 where
+  pub within : i + s ≤ total
+  pub same : length ws ≡ length ws₀
+  pub front : take total ws ≡ take total ws₀
+  pub filled : Filled B s (take total ws₀) (drop total ws₀) (drop total ws) h i
+
+pub none-beside : (B s total : ℕ) (ws : List ℕ) → total < s → ws ≡ take total ws ++ onto (hashes B s (take total ws)) (drop total ws)
+none-beside B s total ws h =
+    sym (take-append-drop total ws) ∙ ap (λ b. take total ws ++ b) (none-fits B s (take total ws) (drop total ws) (omega (arith, length-take total ws)))
+
+pub beside-none : (B s total : ℕ) (ws : List ℕ) (h : ℕ) → 1 ≤ s → s ≤ total → 2 * total ≤ length ws → h ≡ hash B (take (s - 0) (drop 0 ws)) → Beside B s total ws ws h 0
+beside-none B s total ws h least fits room e =
+    let n : length (take total ws) ≡ total = length-take-le total ws (omega arith) in
+    record {
+      within = omega arith;
+      same = refl;
+      front = refl;
+      filled = filled-none B s (take total ws) (drop total ws) h (omega arith) (omega (arith, length-drop total ws)) (rw (sub-zero s, take-take s total ws fits) (rw (sub-zero s) at e));
+    }
+
+module _ (B s total : ℕ) (ws₀ ws : List ℕ) (h i : ℕ) (inv : Beside B s total ws₀ ws h i) where
+  -- A word before the hashes is the word that stood there.
+  word-at : (k : ℕ) → k < total → getD ws k 0 ≡ getD (take total ws₀) k 0
+  word-at k less = sym (getD-take total ws k 0 less) ∙ ap (λ xs. getD xs k 0) (inv .front)
+
+  stored-front : take total (set ws (total + i) h) ≡ take total ws₀
+  stored-front = take-set-le total ws (total + i) h (omega arith) ∙ inv .front
+
+  pub beside-more : (p r : ℕ) → 1 ≤ s → p ≡ B ^ (s - 1) % 2 ^ 32 → 2 * total ≤ length ws₀ → i + s < total → Rolls B p h (getD ws i 0) (getD ws (i + s) 0) r → Beside B s total ws₀ (set ws (total + i) h) r (i + 1)
+  beside-more p r least q room less roll =
+      let n : length (take total ws₀) ≡ total = length-take-le total ws₀ (omega arith) in
+      record {
+        within = omega arith;
+        same = length-set ws (total + i) h ∙ inv .same;
+        front = stored-front;
+        filled = rw (drop-set-add total ws i h) (filled-more B s (take total ws₀) (drop total ws₀) (drop total ws) h i (inv .filled) p r least q (omega arith) (rw (word-at i (omega arith), word-at (i + s) less) at roll));
+      }
+
+  pub beside-all : (ws₁ : List ℕ) → 2 * total ≤ length ws₀ → total ≤ i + s → ws₁ ≡ set ws (total + i) h → ws₁ ≡ take total ws₀ ++ onto (hashes B s (take total ws₀)) (drop total ws₀)
+  beside-all ws₁ room all e =
+      let n : length (take total ws₀) ≡ total = length-take-le total ws₀ (omega arith) in
+      let back : drop total ws₁ ≡ onto (hashes B s (take total ws₀)) (drop total ws₀) =
+      filled-all B s (take total ws₀) (drop total ws₀) (drop total ws) h i (inv .filled) (drop total ws₁) (omega arith) (rw e (drop-set-add total ws i h)) in
+      let front : take total ws₁ ≡ take total ws₀ = rw e stored-front in
+      sym (take-append-drop total ws₁) ∙ rw (front, back) refl
 
 -- ---- what an accepted call has
 pub record Accepted (words : List ℕ) (s room : ℕ) : Type 0 where

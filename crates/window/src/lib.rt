@@ -3,7 +3,7 @@ use symbol::Counted;
 ghost use mathlib.Core.Path.{_≡_};
 ghost use mathlib.Core.List.{List, [], _∷_, _++_};
 ghost use Prim.Native.Nat.{ℕ, _+_, _*_, _%_, _^_, _≤_, _<_};
-ghost use lib.ListN.{length};
+ghost use lib.ListN.{length, take, drop};
 ghost use Rattle.buffer.specs.Buffer.{onto};
 ghost use Rattle.window.specs.Hash.{hash};
 ghost use Rattle.window.specs.HashList.{windows, hashes, hashRefusal, hashAnswer, hashBuffer};
@@ -67,6 +67,27 @@ fn fill_hashes(words: &[u32], b: u32, s: usize, buffer: &mut [u32])
         i += 1;
     }
     buffer::put(buffer, i, h);
+}
+
+// Fills the part of the workspace after its first total words with the hash at each position of those where a window of s
+// words fits.
+pub fn hash_windows(ws: &mut [u32], total: usize, b: u32, s: usize)
+    requires { ⌜ (1 ≤ s) × (total ≤ 4096) × (2 * total ≤ length (now ws)) ⌝ }
+    ensures { λ r. ⌜ now (ws .exit) ≡ take total (now (ws .entry)) ++ onto (hashes b s (take total (now (ws .entry)))) (drop total (now (ws .entry))) ⌝ }
+{
+    if total < s {
+        return;
+    }
+    let p = power(b, s - 1);
+    let mut h = hash_of(b, &ws[0..s]);
+    let mut i = 0;
+    while i + s < total {
+        let next = roll(h, ws[i], p, b, ws[i + s]);
+        ws[total + i] = h;
+        h = next;
+        i += 1;
+    }
+    buffer::put(ws, total + i, h);
 }
 
 // At how many positions of n words a window of s words fits.
