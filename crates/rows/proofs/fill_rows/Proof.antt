@@ -1,0 +1,51 @@
+-- `rows::fill_rows` meets its contract: at the head of each turn the rows from p on have their bounds, and the last of them caps the row before.
+-- Assumes nothing.
+use Rattle.rows.proofs.Bounds.{Filling, filling-none, filling-more, filling-all, before-row, row-fits}
+use borrow.Author.Needs.{needs}
+use Rattle.rows.proofs.fill_rows.Statement.{statement}
+use Rattle.rows.proofs.fill_rows.Tie as tie
+
+abbrev Inv-loop : tie.InvT-loop
+Inv-loop ws₀ job s buckets heads seen last₀ p₀ ws last p = Filling job s buckets heads seen ws₀ ws p last
+
+abbrev μ-loop : tie.MeasureT-loop
+μ-loop ws₀ job s buckets heads seen last₀ p₀ ws last p = p
+
+loop-holds : tie.Need-loop-holds Inv-loop μ-loop
+loop-holds c = search filling-none
+
+sub-p : tie.Need-sub-p Inv-loop μ-loop
+sub-p c = search needs
+
+row-bound-requires : tie.Need-row-bound-requires Inv-loop μ-loop
+row-bound-requires c κs = (search needs, search needs, search needs, search needs, search needs, search needs, search needs, search before-row)
+
+set-bound-requires : tie.Need-set-bound-requires Inv-loop μ-loop
+set-bound-requires c κs = (search needs, search needs, search row-fits)
+
+loop-less : tie.Need-loop-less Inv-loop μ-loop
+loop-less c = search needs
+
+loop-again : tie.Need-loop-again Inv-loop μ-loop
+loop-again c = search filling-more
+
+same-length : tie.Need-same-length Inv-loop μ-loop
+same-length c = search needs
+
+returns : tie.Need-returns Inv-loop μ-loop
+returns c = search filling-all
+
+pub fill-rows-spec : {M : Type 1} → statement M
+fill-rows-spec =
+    tie.close
+    (tie.spec
+    Inv-loop
+    μ-loop
+    loop-holds
+    sub-p
+    row-bound-requires
+    set-bound-requires
+    loop-less
+    loop-again
+    same-length
+    returns)

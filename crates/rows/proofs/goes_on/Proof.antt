@@ -1,0 +1,63 @@
+-- `rows::goes_on` meets its contract: where it is true the position on the text was tested not to be 0.
+-- Assumes nothing.
+use Rattle.rows.proofs.Bounds.{goes-nowhere}
+use borrow.Author.Needs.{needs}
+use Rattle.rows.proofs.goes_on.Statement.{statement}
+use Rattle.rows.proofs.goes_on.Tie as tie
+
+returns : tie.Need-returns
+returns c = search goes-nowhere
+
+returns-2 : tie.Need-returns-2
+returns-2 c = search needs
+
+sub-on-text : tie.Need-sub-on-text
+sub-on-text c = search needs
+
+alike-requires : tie.Need-alike-requires
+alike-requires c κs = search needs
+
+returns-3 : tie.Need-returns-3
+returns-3 c = search needs
+
+add-on-text : tie.Need-add-on-text
+add-on-text c = search needs
+
+sub-on-text-2 : tie.Need-sub-on-text-2
+sub-on-text-2 c = search needs
+
+mul-words-match : tie.Need-mul-words-match
+mul-words-match c = search needs
+
+shared-slice-read-words-match : tie.Need-shared-slice-read-words-match
+shared-slice-read-words-match c = search needs
+
+mul-words-match-2 : tie.Need-mul-words-match-2
+mul-words-match-2 c = search needs
+
+shared-slice-read-words-match-2 : tie.Need-shared-slice-read-words-match-2
+shared-slice-read-words-match-2 c = search needs
+
+words-match-requires : tie.Need-words-match-requires
+words-match-requires c κs = search needs
+
+returns-4 : tie.Need-returns-4
+returns-4 c = search needs
+
+pub goes-on-spec : {M : Type 1} → statement M
+goes-on-spec =
+    tie.close
+    (tie.spec
+    returns
+    returns-2
+    sub-on-text
+    alike-requires
+    returns-3
+    add-on-text
+    sub-on-text-2
+    mul-words-match
+    shared-slice-read-words-match
+    mul-words-match-2
+    shared-slice-read-words-match-2
+    words-match-requires
+    returns-4)
