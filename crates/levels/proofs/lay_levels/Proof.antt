@@ -1,0 +1,52 @@
+-- `levels::lay_levels` meets its contract: at the head of each turn the level is the greatest bound, and a sweep leaves every bound below it.
+-- Assumes nothing.
+use Rattle.sweep.proofs.Turn.{level-less}
+use Rattle.levels.proofs.Pass.{Lowering, lowering-none, lowering-sweep, lowering-more, lowering-done}
+use borrow.Author.Needs.{needs}
+use Rattle.levels.proofs.lay_levels.Statement.{statement}
+use Rattle.levels.proofs.lay_levels.Tie as tie
+
+abbrev Inv-loop : tie.InvT-loop
+Inv-loop ws₀ job s buckets heads seen top tiles₀ sum₀ level₀ ws tiles sum level = Lowering job s buckets heads seen ws₀ tiles₀ sum₀ ws tiles sum level
+
+abbrev μ-loop : tie.MeasureT-loop
+μ-loop ws₀ job s buckets heads seen top tiles₀ sum₀ level₀ ws tiles sum level = level
+
+loop-holds : tie.Need-loop-holds Inv-loop μ-loop
+loop-holds c = search lowering-none
+
+sweep-rows-requires : tie.Need-sweep-rows-requires Inv-loop μ-loop
+sweep-rows-requires c κs = (search lowering-sweep, search needs, search needs)
+
+greatest-bound-requires : tie.Need-greatest-bound-requires Inv-loop μ-loop
+greatest-bound-requires c κs = search needs
+
+loop-less : tie.Need-loop-less Inv-loop μ-loop
+loop-less c = search level-less
+
+loop-again : tie.Need-loop-again Inv-loop μ-loop
+loop-again c = search lowering-more
+
+same-length : tie.Need-same-length Inv-loop μ-loop
+same-length c = search needs
+
+same-length-2 : tie.Need-same-length-2 Inv-loop μ-loop
+same-length-2 c = search needs
+
+returns : tie.Need-returns Inv-loop μ-loop
+returns c = search lowering-done
+
+pub lay-levels-spec : {M : Type 1} → statement M
+lay-levels-spec =
+    tie.close
+    (tie.spec
+    Inv-loop
+    μ-loop
+    loop-holds
+    sweep-rows-requires
+    greatest-bound-requires
+    loop-less
+    loop-again
+    same-length
+    same-length-2
+    returns)

@@ -1,0 +1,61 @@
+-- `levels::sweep_rows` meets its contract: each turn takes the sweep over one row whose bound is the level, and over those up to the next.
+-- Assumes nothing.
+use Prim.Native.Nat.{_-_}
+use Rattle.levels.proofs.Pass.{Turning, turning-none, turning-full, turning-more, turning-less}
+use Rattle.sweep.proofs.Turn.{swept-all}
+use borrow.Author.Needs.{needs}
+use Rattle.levels.proofs.sweep_rows.Statement.{statement}
+use Rattle.levels.proofs.sweep_rows.Tie as tie
+
+abbrev Inv-loop : tie.InvT-loop
+Inv-loop ws₀ job s buckets heads seen level tiles₀ sum₀ p₀ ws tiles sum p = Turning job s buckets heads seen level ws₀ tiles₀ sum₀ ws tiles sum p
+
+abbrev μ-loop : tie.MeasureT-loop
+μ-loop ws₀ job s buckets heads seen level tiles₀ sum₀ p₀ ws tiles sum p = job .n - p
+
+next-row-requires : tie.Need-next-row-requires Inv-loop μ-loop
+next-row-requires c κs = search needs
+
+loop-holds : tie.Need-loop-holds Inv-loop μ-loop
+loop-holds c = search turning-none
+
+visit-requires : tie.Need-visit-requires Inv-loop μ-loop
+visit-requires c κs = (search needs, search needs, search needs, search needs, search turning-full)
+
+add-next-row : tie.Need-add-next-row Inv-loop μ-loop
+add-next-row c = search needs
+
+next-row-requires-2 : tie.Need-next-row-requires-2 Inv-loop μ-loop
+next-row-requires-2 c κs = search needs
+
+loop-less : tie.Need-loop-less Inv-loop μ-loop
+loop-less c = search turning-less
+
+loop-again : tie.Need-loop-again Inv-loop μ-loop
+loop-again c = search turning-more
+
+same-length : tie.Need-same-length Inv-loop μ-loop
+same-length c = search needs
+
+same-length-2 : tie.Need-same-length-2 Inv-loop μ-loop
+same-length-2 c = search needs
+
+returns : tie.Need-returns Inv-loop μ-loop
+returns c = (search swept-all, (search needs, search needs))
+
+pub sweep-rows-spec : {M : Type 1} → statement M
+sweep-rows-spec =
+    tie.close
+    (tie.spec
+    Inv-loop
+    μ-loop
+    next-row-requires
+    loop-holds
+    visit-requires
+    add-next-row
+    next-row-requires-2
+    loop-less
+    loop-again
+    same-length
+    same-length-2
+    returns)
