@@ -6,7 +6,7 @@ use native.Mathlib.Omega.{arith}
 use mathlib.Core.Path.{_≡_, refl, sym, _∙_, ap, subst}
 use mathlib.Core.Bool.{Bool}
 use mathlib.Core.List.{List, _++_}
-use lib.ListN.{length, take, drop, getD, length-take, length-drop, length-append, List·getD-append}
+use lib.ListN.{length, take, drop, getD, length-take, length-drop, length-append, replicate, getD-replicate, List·getD-append}
 use lib.Seq.{length-take-le, take-take, take-add, drop-at, take-at, getD-append-add, getD-take, take-append-le, drop-append-le, drop-append-add, ext-getD}
 use Rattle.symbol.proofs.Word.{match-equal}
 use Rattle.buffer.specs.Buffer.{onto}
@@ -110,7 +110,10 @@ module _ (j : Job) (s B : ℕ) (ws ws' : List ℕ) (space : Space j ws) (least :
       ∙ (ap (hash B) (text-window u ∙ (sym (run-equal ps ts s h) ∙ sym (pattern-window p in-pattern))) ∙ sym (stored p (omega arith))))
 
   -- ---- before the first link
-  module _ (k : ℕ) (heads : List ℕ) (seen : List Bool) (past : (b : ℕ) → b < 1024 → 2048 ≤ getD heads b 0) where
+  module _ (k : ℕ) (heads : List ℕ) (seen : List Bool) (fresh : heads ≡ replicate 1024 2048) where
+    past : (b : ℕ) → b < 1024 → 2048 ≤ getD heads b 0
+    past b h = rw fresh (omega (arith, getD-replicate {A = ℕ} 1024 b 2048 0 h))
+
     pub linking-none : Linking j s k ws' heads seen (j .m) (j .m)
     linking-none =
         record {

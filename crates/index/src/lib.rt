@@ -5,8 +5,8 @@ use tile::PatternAt;
 use tile::TextAt;
 ghost use mathlib.Core.Path.{_≡_};
 ghost use mathlib.Core.Bool.{true, false};
-ghost use Prim.Native.Nat.{ℕ, _+_, _≤_, _<_};
-ghost use lib.ListN.{length, getD, set};
+ghost use Prim.Native.Nat.{_+_, _≤_, _<_};
+ghost use lib.ListN.{length, getD, set, replicate};
 ghost use Rattle.window.specs.Hash.{bucket};
 ghost use Rattle.sweep.specs.Workspace.{Space, state, boundsFrom};
 ghost use Rattle.index.specs.Indexed.{patternHash, textHash, link, slot, Built};
@@ -103,6 +103,14 @@ fn set_link(ws: &mut [u32], job: Job, t: TextAt, value: u32)
     ws[at] = value;
 }
 
+// Sets a flag.
+fn raise(flags: &mut [bool], at: usize)
+    requires { ⌜ at < length (now flags) ⌝ }
+    ensures { λ r. ⌜ (now (flags .exit) ≡ set (now (flags .entry)) at true) × (getD (now (flags .exit)) at false ≡ true) ⌝ }
+{
+    flags[at] = true;
+}
+
 // Makes a position of the text the head of its bucket, and its hash known to the filter.
 fn enter(heads: &mut [u32; 1024], seen: &mut [bool; 16384], bucket: usize, h: u32, t: TextAt)
     requires { ⌜ (bucket < 1024) × (t .0 ≤ 2048) ⌝ }
@@ -111,14 +119,6 @@ fn enter(heads: &mut [u32; 1024], seen: &mut [bool; 16384], bucket: usize, h: u3
 {
     heads[bucket] = t.0 as u32;
     raise(seen, slot_of(h));
-}
-
-// Sets a flag.
-fn raise(flags: &mut [bool], at: usize)
-    requires { ⌜ at < length (now flags) ⌝ }
-    ensures { λ r. ⌜ (now (flags .exit) ≡ set (now (flags .entry)) at true) × (getD (now (flags .exit)) at false ≡ true) ⌝ }
-{
-    flags[at] = true;
 }
 
 // Links the text's window at t to the head of its bucket, and makes it the head where its s words are free.
@@ -176,7 +176,7 @@ pub fn build(
     heads: &mut [u32; 1024],
     seen: &mut [bool; 16384],
 )
-    requires { ⌜ Space job (now ws) × (1 ≤ s) × (s ≤ 2048) × (1 ≤ hashing .buckets) × (hashing .buckets ≤ 1024) × ((b : ℕ) → b < 1024 → 2048 ≤ getD (now heads) b 0) ⌝ }
+    requires { ⌜ Space job (now ws) × (1 ≤ s) × (s ≤ 2048) × (1 ≤ hashing .buckets) × (hashing .buckets ≤ 1024) × (now heads ≡ replicate 1024 2048) ⌝ }
     ensures { λ r. ⌜ Built job s (hashing .buckets) (now (ws .entry)) (now (ws .exit)) (now (heads .exit)) (now (seen .exit)) ⌝ }
 {
     window::hash_windows(ws, job.n + job.m, hashing.multiplier, s);
