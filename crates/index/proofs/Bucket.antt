@@ -3,10 +3,10 @@
 use Prim.Native.Nat.{ℕ, _/_, _%_, _^_, _≤_, _<_}
 use native.Mathlib.Nat.{mod-lt}
 use native.Mathlib.Omega.{arith}
-use mathlib.Core.Path.{_≡_, refl}
-use mathlib.Core.Bool.{Bool, false}
+use mathlib.Core.Path.{_≡_, refl, _∙_}
+use mathlib.Core.Bool.{Bool, true, false}
 use mathlib.Core.List.{List}
-use lib.ListN.{getD}
+use lib.ListN.{getD, set}
 use Rattle.window.specs.Hash.{bucket}
 use Rattle.index.specs.Indexed.{slot}
 
@@ -29,3 +29,9 @@ slot-small h = mod-lt (h / 65536) (omega arith)
 
 pub known-at : (seen : List Bool) (i h : ℕ) → i ≡ slot h → getD seen i false ≡ getD seen (slot h) false
 known-at seen i h e = rw e refl
+
+pub entered-at : (seen seen' : List Bool) (i h : ℕ) → i ≡ slot h → seen' ≡ set seen i true → seen' ≡ set seen (slot h) true
+entered-at seen seen' i h e w = w ∙ rw e refl
+
+pub entered-known : (seen : List Bool) (i h : ℕ) → i ≡ slot h → getD seen i false ≡ true → getD seen (slot h) false ≡ true
+entered-known seen i h e w = rw (← e) w

@@ -1,2 +1,5 @@
 pub mod Bucket
 pub mod Kept
+pub mod Free
+pub mod Linking
+pub mod Windows

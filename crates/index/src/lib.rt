@@ -4,12 +4,13 @@ use sweep::Job;
 use tile::PatternAt;
 use tile::TextAt;
 ghost use mathlib.Core.Path.{_≡_};
-ghost use mathlib.Core.Bool.{false};
+ghost use mathlib.Core.Bool.{true, false};
 ghost use Prim.Native.Nat.{_+_, _≤_, _<_};
-ghost use lib.ListN.{getD};
+ghost use lib.ListN.{length, getD, set, replicate};
 ghost use Rattle.window.specs.Hash.{bucket};
-ghost use Rattle.sweep.specs.Workspace.{Space};
-ghost use Rattle.index.specs.Indexed.{patternHash, textHash, link, slot};
+ghost use Rattle.sweep.specs.Workspace.{Space, state, boundsFrom};
+ghost use Rattle.index.specs.Indexed.{patternHash, textHash, link, slot, Built};
+ghost use Rattle.index.specs.Linking.{freeAt, Linking};
 
 // How windows are hashed.
 pub struct Hashing {
@@ -79,4 +80,105 @@ pub fn knows(seen: &[bool; 16384], h: u32) -> bool
     ensures { λ r. ⌜ r ≡ getD (now (seen .entry)) (slot h) false ⌝ }
 {
     seen[slot_of(h)]
+}
+
+// How many calls stand in the text from t on without a gap, where after that many stand from the next position on.
+fn free_from(ws: &[u32], job: Job, t: TextAt, after: usize) -> usize
+    requires { ⌜ Space job (now ws) × (t .0 < job .m) × (after ≡ freeAt job (now ws) (t .0 + 1)) ⌝ }
+    ensures { λ r. ⌜ r ≡ freeAt job (now (ws .entry)) (t .0) ⌝ }
+{
+    let at = job.n + t.0;
+    if symbol::is_call(ws[at]) {
+        return after + 1;
+    }
+    0
+}
+
+// Sets where a position of the text points on to.
+fn set_link(ws: &mut [u32], job: Job, t: TextAt, value: u32)
+    requires { ⌜ Space job (now ws) × (t .0 < job .m) ⌝ }
+    ensures { λ r. ⌜ now (ws .exit) ≡ set (now (ws .entry)) (boundsFrom job + job .n + t .0) value ⌝ }
+{
+    let at = 2 * (job.n + job.m) + job.n + t.0;
+    ws[at] = value;
+}
+
+// Sets a flag.
+fn raise(flags: &mut [bool], at: usize)
+    requires { ⌜ at < length (now flags) ⌝ }
+    ensures { λ r. ⌜ (now (flags .exit) ≡ set (now (flags .entry)) at true) × (getD (now (flags .exit)) at false ≡ true) ⌝ }
+{
+    flags[at] = true;
+}
+
+// Makes a position of the text the head of its bucket, and its hash known to the filter.
+fn enter(heads: &mut [u32; 1024], seen: &mut [bool; 16384], bucket: usize, h: u32, t: TextAt)
+    requires { ⌜ (bucket < 1024) × (t .0 ≤ 2048) ⌝ }
+    ensures { λ r. ⌜ now (heads .exit) ≡ set (now (heads .entry)) bucket (t .0) ⌝ }
+    ensures { λ r. ⌜ (now (seen .exit) ≡ set (now (seen .entry)) (slot h) true) × (getD (now (seen .exit)) (slot h) false ≡ true) ⌝ }
+{
+    heads[bucket] = t.0 as u32;
+    raise(seen, slot_of(h));
+}
+
+// Links the text's window at t to the head of its bucket, and makes it the head where its s words are free.
+fn link_window(
+    ws: &mut [u32],
+    job: Job,
+    buckets: u32,
+    s: usize,
+    t: TextAt,
+    free: usize,
+    heads: &mut [u32; 1024],
+    seen: &mut [bool; 16384],
+)
+    requires { ⌜ Linking job s buckets (now ws) (now heads) (now seen) (t .0 + 1) (t .0 + 1) × (t .0 < job .m) × (free ≡ freeAt job (now ws) (t .0)) × (1 ≤ buckets) × (buckets ≤ 1024) ⌝ }
+    ensures { λ r. ⌜ Linking job s buckets (now (ws .exit)) (now (heads .exit)) (now (seen .exit)) (t .0) (t .0) ⌝ }
+    ensures { λ r. ⌜ state job (now (ws .exit)) ≡ state job (now (ws .entry)) ⌝ }
+{
+    let h = text_hash(ws, job, t);
+    let bucket = bucket_of(h, buckets);
+    set_link(ws, job, t, heads[bucket]);
+    if free < s {
+        return;
+    }
+    enter(heads, seen, bucket, h, t);
+}
+
+// Links the text's windows by bucket, from right to left, so that each chain rises.
+fn link_windows(
+    ws: &mut [u32],
+    job: Job,
+    buckets: u32,
+    s: usize,
+    heads: &mut [u32; 1024],
+    seen: &mut [bool; 16384],
+)
+    requires { ⌜ Linking job s buckets (now ws) (now heads) (now seen) (job .m) (job .m) × (1 ≤ buckets) × (buckets ≤ 1024) ⌝ }
+    ensures { λ r. ⌜ Built job s buckets (now (ws .entry)) (now (ws .exit)) (now (heads .exit)) (now (seen .exit)) ⌝ }
+{
+    let mut free = 0;
+    let mut t = job.m;
+    while 0 < t {
+        t -= 1;
+        free = free_from(ws, job, TextAt(t), free);
+        link_window(ws, job, buckets, s, TextAt(t), free, heads, seen);
+    }
+}
+
+// Hashes every window of s words and links the text's free windows by bucket, from right to left, so that each chain rises.
+// Every head must be past the text; of the filter nothing is asked, since an entry that is true too often does no harm.
+pub fn build(
+    ws: &mut [u32],
+    job: Job,
+    hashing: Hashing,
+    s: usize,
+    heads: &mut [u32; 1024],
+    seen: &mut [bool; 16384],
+)
+    requires { ⌜ Space job (now ws) × (1 ≤ s) × (s ≤ 2048) × (1 ≤ hashing .buckets) × (hashing .buckets ≤ 1024) × (now heads ≡ replicate 1024 2048) ⌝ }
+    ensures { λ r. ⌜ Built job s (hashing .buckets) (now (ws .entry)) (now (ws .exit)) (now (heads .exit)) (now (seen .exit)) ⌝ }
+{
+    window::hash_windows(ws, job.n + job.m, hashing.multiplier, s);
+    link_windows(ws, job, hashing.buckets, s, heads, seen);
 }

@@ -78,11 +78,11 @@ pub fn hash_windows(ws: &mut [u32], total: usize, b: u32, s: usize)
     if total < s {
         return;
     }
-    let p = power(b, s - 1);
+    let weight = power(b, s - 1);
     let mut h = hash_of(b, &ws[0..s]);
     let mut i = 0;
     while i + s < total {
-        let next = roll(h, ws[i], p, b, ws[i + s]);
+        let next = roll(h, ws[i], weight, b, ws[i + s]);
         ws[total + i] = h;
         h = next;
         i += 1;

@@ -8,10 +8,10 @@ use Rattle.window.proofs.hash_windows.Statement.{statement}
 use Rattle.window.proofs.hash_windows.Tie as tie
 
 abbrev Inv-loop : tie.InvT-loop
-Inv-loop ws₀ total b s p h₀ i₀ ws h i = Beside b s total ws₀ ws h i
+Inv-loop ws₀ total b s weight h₀ i₀ ws h i = Beside b s total ws₀ ws h i
 
 abbrev μ-loop : tie.MeasureT-loop
-μ-loop ws₀ total b s p h₀ i₀ ws h i = total - i
+μ-loop ws₀ total b s weight h₀ i₀ ws h i = total - i
 
 returns : tie.Need-returns Inv-loop μ-loop
 returns c = search none-beside

@@ -1,0 +1,27 @@
+-- `index::build` meets its contract: where a run of s words begins the two windows have the same hash, and the links are then made from right to
+-- left.
+-- Assumes nothing.
+use Rattle.index.proofs.Windows.{linking-none, built-all}
+use borrow.Author.Needs.{needs}
+use Rattle.index.proofs.build.Statement.{statement}
+use Rattle.index.proofs.build.Tie as tie
+
+add-hash-windows : tie.Need-add-hash-windows
+add-hash-windows c = search needs
+
+hash-windows-requires : tie.Need-hash-windows-requires
+hash-windows-requires c κs = search needs
+
+link-windows-requires : tie.Need-link-windows-requires
+link-windows-requires c κs = (search linking-none, search needs, search needs)
+
+same-length : tie.Need-same-length
+same-length c = search needs
+
+returns : tie.Need-returns
+returns c = search built-all
+
+pub build-spec : {M : Type 1} → statement M
+build-spec =
+    tie.close
+    (tie.spec add-hash-windows hash-windows-requires link-windows-requires same-length returns)
