@@ -10,8 +10,8 @@ ghost use Prim.Native.Nat.{_+_, _-_, _*_, _≤_, _<_, max};
 ghost use lib.Dec.{eqb};
 ghost use lib.ListN.{drop};
 ghost use Rattle.tiling.specs.Tiling.{runAt};
-ghost use Rattle.sweep.specs.Workspace.{Space, state};
-ghost use Rattle.sweep.specs.Row.{better};
+ghost use Rattle.sweep.specs.Workspace.{Space, state, bound};
+ghost use Rattle.sweep.specs.Row.{better, Greatest};
 ghost use Rattle.index.specs.Indexed.{Indexed, patternHash, textHash};
 ghost use Rattle.rows.specs.Reached.{Alike, Reached, Capped, FilledRows, Measured};
 
@@ -174,6 +174,23 @@ fn fill_rows(
     }
 }
 
+// Sets the bounds of all rows, and answers the greatest.
+pub fn fill_bounds(
+    ws: &mut [u32],
+    job: Job,
+    s: usize,
+    buckets: u32,
+    heads: &[u32; 1024],
+    seen: &[bool; 16384],
+) -> usize
+    requires { ⌜ Space job (now ws) × Indexed job s buckets (now ws) (now heads) (now seen) × (1 ≤ buckets) × (buckets ≤ 1024) × (1 ≤ s) × (s ≤ 2048) ⌝ }
+    ensures { λ r. ⌜ FilledRows job s buckets (now (heads .entry)) (now (seen .entry)) (now (ws .entry)) (now (ws .exit)) ⌝ }
+    ensures { λ r. ⌜ Greatest (bound job (now (ws .exit))) (job .n) r ⌝ }
+{
+    fill_rows(ws, job, s, buckets, heads, seen);
+    sweep::greatest_bound(ws, job)
+}
+
 // The length of a run of more than 2 s words, where one is met in every s-th row; else 0.
 fn probe(
     ws: &[u32],
@@ -223,6 +240,5 @@ pub fn longest(
     if 2 * s < far {
         return far;
     }
-    fill_rows(ws, job, s, buckets, heads, seen);
-    sweep::greatest_bound(ws, job)
+    fill_bounds(ws, job, s, buckets, heads, seen)
 }

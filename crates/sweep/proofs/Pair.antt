@@ -18,8 +18,8 @@ use Rattle.tiling.proofs.Tally.{tally-length}
 use Rattle.tiling.proofs.Greedy.{Greedy, done, only}
 use Rattle.tiling.proofs.Tiling.{tiling-greedy}
 use Rattle.tile.specs.Listed.{listed}
-use Rattle.sweep.specs.Workspace.{state}
-use Rattle.sweep.specs.Progress.{Laid, Filled, Ready, Finished}
+use Rattle.sweep.specs.Workspace.{Space, state}
+use Rattle.sweep.specs.Progress.{Fits, Laid, Filled, Ready, Finished}
 use Rattle.sweep.specs.Result.{Listed, Checked}
 use Rattle.sweep.specs.declared.Job.{Job}
 use Rattle.sweep.specs.declared.Totals.{Totals}
@@ -45,48 +45,59 @@ module _ (pattern text : List ℕ) (minimum : ℕ) (straight : Bool) where
       on-text : take (length text) (drop (length pattern) (onto (pattern ++ text) ws)) ≡ text
       on-text = rw (whole, drop-at pattern (text ++ rest) (length pattern) refl) (take-at text rest (length text) refl)
 
-  module _ (ws b ws₁ ws₂ : List ℕ) (c : Checked (length pattern) (length text) (length pattern) minimum (length ws) (length b)) (copied : ws₁ ≡ onto (pattern ++ text) ws) (f : Filled job ws₁ ws₂) where
-    pub pair-ready : Ready job ws₂ b (record { count = 0; covered = 0 })
-    pair-ready =
+  module _ (ws b : List ℕ) (c : Checked (length pattern) (length text) (length pattern) minimum (length ws) (length b)) where
+    -- Nothing is laid, so everything fits.
+    fits : (ws₂ : List ℕ) → Space job ws₂ → Fits job ws₂ b (record { count = 0; covered = 0 })
+    fits ws₂ space =
         record {
-          fits =
-              record {
-                space = f .space;
-                least = c .least;
-                most = c .most;
-                tile-room = c .tile-room;
-                each = omega arith;
-                free = omega (arith, tally-length isCall (take (length pattern) ws₂), length-take (length pattern) ws₂);
-              };
-          upper = f .upper;
+          space = space;
+          least = c .least;
+          most = c .most;
+          tile-room = c .tile-room;
+          each = omega arith;
+          free = omega (arith, tally-length isCall (take (length pattern) ws₂), length-take (length pattern) ws₂);
         }
 
-    first-state : state job ws₂ ≡ start pattern text
-    first-state = f .same ∙ (ap (λ x. state job x) copied ∙ copied-state ws)
+    pub pair-fits : (ws₁ : List ℕ) → ws₁ ≡ onto (pattern ++ text) ws → length ws₁ ≡ length ws → Fits job ws₁ b (record { count = 0; covered = 0 })
+    pair-fits ws₁ e h = fits ws₁ (record { short-pattern = c .short-first; short-text = c .short-second; roomy = omega (arith, c .work-room, h) })
 
-    nothing-laid : Laid job (start pattern text) b ws₂ b (record { count = 0; covered = 0 })
-    unfolding tileWords covered
-    nothing-laid =
-        record {
-          tiles = [];
-          rest = λ ls g. subst (λ u. Greedy best size lay minimum u ls) first-state g;
-          held = refl;
-          counted = refl;
-          summed = refl;
-        }
+    pub pair-ready : (ws₁ ws₂ : List ℕ) → ws₁ ≡ onto (pattern ++ text) ws → Filled job ws₁ ws₂ → Ready job ws₂ b (record { count = 0; covered = 0 })
+    pair-ready ws₁ ws₂ e f = record { fits = fits ws₂ (f .space); upper = f .upper }
 
-    -- ---- the end
-    pub pair-listed : (ws₃ b' : List ℕ) (k : Totals) → Finished job minimum ws₂ b (record { count = 0; covered = 0 }) ws₃ b' k → Listed (map (listed straight) (tiling minimum (start pattern text))) b b' k
-    pair-listed ws₃ b' k e =
-        let l = e .onward .keeps (start pattern text) b nothing-laid in
-        let g : Greedy best size lay minimum (start pattern text) (l .tiles ++ []) = l .rest [] (done (e .short)) in
-        let t : l .tiles ≡ tiling minimum (start pattern text) =
-        sym (append-nil (l .tiles)) ∙ only g (tiling-greedy minimum (c .least) (start pattern text)) in
-        record {
-          held = rw (← t) (l .held);
-          counted = rw (← t) (l .counted ∙ sym (length-map (l .tiles) (listed straight)));
-          summed = rw (← t) (l .summed);
-        }
+    module _ (ws₁ ws₂ : List ℕ) (copied : ws₁ ≡ onto (pattern ++ text) ws) (same : state job ws₂ ≡ state job ws₁) where
+      first-state : state job ws₂ ≡ start pattern text
+      first-state = same ∙ (ap (λ x. state job x) copied ∙ copied-state ws)
+
+      nothing-laid : Laid job (start pattern text) b ws₂ b (record { count = 0; covered = 0 })
+      unfolding tileWords covered
+      nothing-laid =
+          record {
+            tiles = [];
+            rest = λ ls g. subst (λ u. Greedy best size lay minimum u ls) first-state g;
+            held = refl;
+            counted = refl;
+            summed = refl;
+          }
+
+      -- ---- the end
+      listed-all : (ws₃ b' : List ℕ) (k : Totals) → Finished job minimum ws₂ b (record { count = 0; covered = 0 }) ws₃ b' k → Listed (map (listed straight) (tiling minimum (start pattern text))) b b' k
+      listed-all ws₃ b' k e =
+          let l = e .onward .keeps (start pattern text) b nothing-laid in
+          let g : Greedy best size lay minimum (start pattern text) (l .tiles ++ []) = l .rest [] (done (e .short)) in
+          let t : l .tiles ≡ tiling minimum (start pattern text) =
+          sym (append-nil (l .tiles)) ∙ only g (tiling-greedy minimum (c .least) (start pattern text)) in
+          record {
+            held = rw (← t) (l .held);
+            counted = rw (← t) (l .counted ∙ sym (length-map (l .tiles) (listed straight)));
+            summed = rw (← t) (l .summed);
+          }
+
+    -- Where the bounds were filled first, and where they were not.
+    pub filled-listed : (ws₁ ws₂ : List ℕ) → ws₁ ≡ onto (pattern ++ text) ws → Filled job ws₁ ws₂ → (ws₃ b' : List ℕ) (k : Totals) → Finished job minimum ws₂ b (record { count = 0; covered = 0 }) ws₃ b' k → Listed (map (listed straight) (tiling minimum (start pattern text))) b b' k
+    filled-listed ws₁ ws₂ e f = listed-all ws₁ ws₂ e (f .same)
+
+    pub pair-listed : (ws₁ : List ℕ) → ws₁ ≡ onto (pattern ++ text) ws → (ws₃ b' : List ℕ) (k : Totals) → Finished job minimum ws₁ b (record { count = 0; covered = 0 }) ws₃ b' k → Listed (map (listed straight) (tiling minimum (start pattern text))) b b' k
+    pair-listed ws₁ e = listed-all ws₁ ws₁ e refl
 
 -- ---- which sequence is the pattern
 module _ (first second : List ℕ) (minimum workspace : ℕ) (b : List ℕ) (c : Checked (length first) (length second) (min (length first) (length second)) minimum workspace (length b)) where

@@ -1,6 +1,6 @@
 -- `plain::tile_pair` meets its contract: it starts from the two sequences with no tile laid, and stops when nothing as long as the minimum is left.
 -- Assumes nothing.
-use Rattle.sweep.proofs.Pair.{pair-ready, pair-listed}
+use Rattle.sweep.proofs.Pair.{pair-ready, filled-listed}
 use borrow.Author.Needs.{needs}
 use Rattle.plain.proofs.tile_pair.Statement.{statement}
 use Rattle.plain.proofs.tile_pair.Tie as tie
@@ -21,7 +21,7 @@ same-length-2 : tie.Need-same-length-2
 same-length-2 c = search needs
 
 returns : tie.Need-returns
-returns c = search pair-listed
+returns c = search filled-listed
 
 pub tile-pair-spec : {M : Type 1} → statement M
 tile-pair-spec =

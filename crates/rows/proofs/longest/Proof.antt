@@ -17,11 +17,8 @@ same-length c = search needs
 returns : tie.Need-returns
 returns c = search measured-far
 
-fill-rows-requires : tie.Need-fill-rows-requires
-fill-rows-requires c κs = search needs
-
-greatest-bound-requires : tie.Need-greatest-bound-requires
-greatest-bound-requires c κs = search needs
+fill-bounds-requires : tie.Need-fill-bounds-requires
+fill-bounds-requires c κs = search needs
 
 same-length-2 : tie.Need-same-length-2
 same-length-2 c = search needs
@@ -37,7 +34,6 @@ longest-spec =
     mul-if1
     same-length
     returns
-    fill-rows-requires
-    greatest-bound-requires
+    fill-bounds-requires
     same-length-2
     returns-2)
