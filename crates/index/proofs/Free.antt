@@ -1,15 +1,15 @@
 -- Free calls of the text. A word matches itself just when it is a call, so the calls that stand without a gap from a position on are the run
 -- of the text with itself; and since words that match are calls, no run is longer.
 -- Assumes nothing.
-use Prim.Native.Nat.{ℕ, suc, _+_, _^_, _≤_, _<_}
+use Prim.Native.Nat.{ℕ, suc, _+_, _-_, _^_, _≤_, _<_}
 use native.Mathlib.Omega.{arith}
 use native.Mathlib.Numerals.{add-one}
 use mathlib.Core.Path.{_≡_, refl, sym, _∙_, ap}
 use mathlib.Core.Bool.{Bool, true, false}
 use mathlib.Core.List.{List, _∷_}
-use lib.ListN.{length, take, drop, getD, length-drop}
+use lib.ListN.{drop, getD, length-take, length-drop}
 use lib.Seq.{drop-cons, getD-take, getD-drop}
-use Rattle.symbol.specs.Word.{isCall, matches}
+use Rattle.symbol.specs.Word.{isCall}
 use Rattle.symbol.proofs.Word.{match-call, match-self, match-swap, no-match-left}
 use Rattle.tiling.specs.Run.{run}
 use Rattle.tiling.specs.Tiling.{State, runAt}
@@ -37,15 +37,21 @@ call-none : (x : ℕ) (xs : List ℕ) → isCall x ≡ false → run (x ∷ xs) 
 unfolding run
 call-none x xs e = rw (run, no-match-left x x e) refl
 
-pub free-within : (j : Job) (ws : List ℕ) (t : ℕ) → Space j ws → freeAt j ws t + t ≤ j .m + t
-free-within j ws t s =
+-- None stand past the end, so a free window begins within the text.
+free-within : (j : Job) (ws : List ℕ) (t : ℕ) → freeAt j ws t ≤ j .m - t
+free-within j ws t =
     let rest = drop t (state j ws .text) in
-    omega (arith, run-within rest rest, length-drop t (state j ws .text), text-length j ws s)
+    omega (arith, run-within rest rest, length-drop t (state j ws .text), length-take (j .m) (drop (j .n) ws))
 
-pub free-end : (j : Job) (ws : List ℕ) → Space j ws → 0 ≡ freeAt j ws (j .m)
-free-end j ws s =
-    let rest = drop (j .m) (state j ws .text) in
-    omega (arith, run-within rest rest, length-drop (j .m) (state j ws .text), text-length j ws s)
+pub free-end : (j : Job) (ws : List ℕ) → 0 ≡ freeAt j ws (j .m)
+free-end j ws = omega (arith, free-within j ws (j .m))
+
+pub free-inside : (j : Job) (ws : List ℕ) (u : ℕ) → 1 ≤ freeAt j ws u → u < j .m
+free-inside j ws u h = omega (arith, h, free-within j ws u)
+
+-- What is free is so by the sequences alone.
+pub free-same : (j : Job) (ws ws' : List ℕ) (u : ℕ) → state j ws' ≡ state j ws → freeAt j ws' u ≡ freeAt j ws u
+free-same j ws ws' u e = ap (λ (x : State). run (drop u (x .text)) (drop u (x .text))) e
 
 module _ (j : Job) (ws : List ℕ) (t after : ℕ) (s : Space j ws) (inside : t < j .m) (known : after ≡ freeAt j ws (t + 1)) where
   first-word : drop t (state j ws .text) ≡ getD ws (j .n + t) 0 ∷ drop (t + 1) (state j ws .text)
@@ -54,7 +60,7 @@ module _ (j : Job) (ws : List ℕ) (t after : ℕ) (s : Space j ws) (inside : t 
       rw (add-one t, ← e) (drop-cons (state j ws .text) t 0 (omega (arith, text-length j ws s)))
 
   pub free-fits : after + 1 < 2 ^ 64
-  free-fits = omega (arith, free-within j ws (t + 1) s, s .short-text)
+  free-fits = omega (arith, free-within j ws (t + 1), s .short-text)
 
   pub free-more : (r : Bool) → r ≡ isCall (getD ws (j .n + t) 0) → r ≡ true → after + 1 ≡ freeAt j ws t
   free-more r e k =

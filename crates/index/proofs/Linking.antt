@@ -1,33 +1,23 @@
 -- One position after another, from right to left. The head of a bucket is the nearest free window of that bucket, or one that is no window, so
 -- a link that takes it over steps over none; and where the window at t is free it becomes the head.
 -- Assumes nothing.
-use Prim.Native.Nat.{ℕ, suc, _+_, _-_, _≤_, _<_}
+use Prim.Native.Nat.{ℕ, _+_, _-_, _≤_, _<_}
 use native.Mathlib.Decide.{decLt, ℕ-discrete}
 use native.Mathlib.Omega.{arith}
 use mathlib.Core.Path.{_≡_, refl, sym, _∙_, ap, subst}
 use mathlib.Core.Bool.{Bool, true, false}
 use mathlib.Core.List.{List}
-use lib.ListN.{length, take, drop, getD, set, length-take, length-drop, length-set, List·getD-eq-default}
+use lib.ListN.{length, getD, set, length-set, List·getD-eq-default}
 use lib.Seq.{getD-set-same, getD-set-other}
-use Rattle.tiling.specs.Run.{run}
 use Rattle.tiling.specs.Tiling.{State, runAt}
-use Rattle.tiling.proofs.Run.{run-within}
 use Rattle.window.specs.Hash.{bucket}
-use Rattle.sweep.specs.Workspace.{Space, state, boundsFrom}
+use Rattle.sweep.specs.Workspace.{state, boundsFrom}
 use Rattle.sweep.specs.declared.Job.{Job}
 use Rattle.sweep.proofs.Workspace.{state-set, space-kept}
-use Rattle.index.specs.Indexed.{patternHash, textHash, link, slot, Indexed, Built}
+use Rattle.index.specs.Indexed.{patternHash, textHash, link, slot, Built}
 use Rattle.index.specs.Linking.{freeAt, Linking}
 use Rattle.index.proofs.Kept.{row-inside, column-inside}
-use Rattle.index.proofs.Free.{free-run, free-end}
-
--- What is free is so by the sequences alone.
-pub free-same : (j : Job) (ws ws' : List ℕ) (u : ℕ) → state j ws' ≡ state j ws → freeAt j ws' u ≡ freeAt j ws u
-free-same j ws ws' u e = ap (λ (x : State). run (drop u (x .text)) (drop u (x .text))) e
-
--- A free window begins within the text.
-pub free-inside : (j : Job) (ws : List ℕ) (u : ℕ) → 1 ≤ freeAt j ws u → u < j .m
-free-inside j ws u h = let ys = state j ws .text in omega (arith, run-within (drop u ys) (drop u ys), length-drop u ys, length-take (j .m) (drop (j .n) ws))
+use Rattle.index.proofs.Free.{free-run, free-end, free-inside, free-same}
 
 -- ---- the link at t
 module _ (j : Job) (s k : ℕ) (ws heads : List ℕ) (seen : List Bool) (t h b : ℕ) (l : Linking j s k ws heads seen (t + 1) (t + 1)) (inside : t < j .m) (eh : h ≡ textHash j ws t) (eb : b ≡ bucket k h) (small : b < 1024) where
@@ -205,7 +195,7 @@ pub record Backward (j : Job) (s k : ℕ) (ws₀ ws heads : List ℕ) (seen : Li
   pub count : free ≡ freeAt j ws t
 
 pub backward-none : (j : Job) (s k : ℕ) (ws heads : List ℕ) (seen : List Bool) → Linking j s k ws heads seen (j .m) (j .m) → Backward j s k ws ws heads seen (j .m) 0
-backward-none j s k ws heads seen l = record { within = omega arith; room = refl; same = refl; linking = l; count = free-end j ws (l .space) }
+backward-none j s k ws heads seen l = record { within = omega arith; room = refl; same = refl; linking = l; count = free-end j ws }
 
 module _ (j : Job) (s k : ℕ) (ws₀ ws heads : List ℕ) (seen : List Bool) (t free : ℕ) (inv : Backward j s k ws₀ ws heads seen t free) where
   module _ (some : 0 < t) where

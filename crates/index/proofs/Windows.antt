@@ -1,12 +1,12 @@
 -- The window hashes of pattern and text. Where a run of s words begins the two windows are the same words, and so have the same hash. The two
 -- sequences stand side by side, so that the hashes of all their windows are one list; a window that straddles is never asked about.
 -- Assumes nothing.
-use Prim.Native.Nat.{ℕ, suc, _+_, _-_, _≤_, _<_}
+use Prim.Native.Nat.{ℕ, _+_, _-_, _≤_, _<_}
 use native.Mathlib.Omega.{arith}
-use mathlib.Core.Path.{_≡_, refl, sym, _∙_, ap, subst}
+use mathlib.Core.Path.{_≡_, sym, _∙_, ap, subst}
 use mathlib.Core.Bool.{Bool}
 use mathlib.Core.List.{List, _++_}
-use lib.ListN.{length, take, drop, getD, length-take, length-drop, length-append, replicate, getD-replicate, List·getD-append}
+use lib.ListN.{length, take, drop, getD, length-drop, length-append, replicate, getD-replicate, List·getD-append}
 use lib.Seq.{length-take-le, take-take, take-add, drop-at, take-at, getD-append-add, getD-take, take-append-le, drop-append-le, drop-append-add, ext-getD}
 use Rattle.symbol.proofs.Word.{match-equal}
 use Rattle.buffer.specs.Buffer.{onto}
@@ -14,15 +14,15 @@ use Rattle.buffer.proofs.Buffer.{length-onto}
 use Rattle.tiling.specs.Run.{run}
 use Rattle.tiling.specs.Tiling.{State, runAt}
 use Rattle.tiling.proofs.Run.{run-match, run-within}
-use Rattle.window.specs.Hash.{hash, bucket}
-use Rattle.window.specs.HashList.{hashes, windows}
+use Rattle.window.specs.Hash.{hash}
+use Rattle.window.specs.HashList.{hashes}
 use Rattle.window.proofs.HashList.{length-hashes, getD-hashes}
 use Rattle.sweep.specs.Workspace.{Space, state}
 use Rattle.sweep.specs.declared.Job.{Job}
 use Rattle.sweep.proofs.Workspace.{pattern-length, text-length, space-kept}
 use Rattle.index.specs.Indexed.{patternHash, textHash, Built}
 use Rattle.index.specs.Linking.{freeAt, Linking}
-use Rattle.index.proofs.Linking.{free-inside}
+use Rattle.index.proofs.Free.{free-inside}
 
 -- The words of a run are the same on both sides.
 run-equal : (ps ts : List ℕ) (s : ℕ) → s ≤ run ps ts → take s ps ≡ take s ts

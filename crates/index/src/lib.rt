@@ -88,10 +88,10 @@ fn free_from(ws: &[u32], job: Job, t: TextAt, after: usize) -> usize
     ensures { λ r. ⌜ r ≡ freeAt job (now (ws .entry)) (t .0) ⌝ }
 {
     let at = job.n + t.0;
-    if symbol::is_call(ws[at]) {
-        return after + 1;
+    if !symbol::is_call(ws[at]) {
+        return 0;
     }
-    0
+    after + 1
 }
 
 // Sets where a position of the text points on to.
