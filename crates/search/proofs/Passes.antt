@@ -52,8 +52,21 @@ module _ (j : Job) (ws ws' b : List ℕ) (k : Totals) (same : state j ws' ≡ st
             };
       }
 
+-- ---- the index and what is measured by it
+module _ (j : Job) (s n : ℕ) (heads : List ℕ) (seen : List Bool) (ws ws₁ ws₂ : List ℕ) (built : Built j s n ws ws₁ heads seen) where
+  pub measured-built : (r : ℕ) → Measured j s n heads seen ws₁ ws₂ r → Measured j s n heads seen ws ws₂ r
+  measured-built r m = record { same = m .same ∙ built .same; indexed = m .indexed; small = m .small; upper = m .upper; greatest = m .greatest }
+
+  pub filled-built : FilledRows j s n heads seen ws₁ ws₂ → FilledRows j s n heads seen ws ws₂
+  filled-built f =
+      record {
+        filled = record { same = f .filled .same ∙ built .same; space = f .filled .space; upper = f .filled .upper };
+        indexed = f .indexed;
+        small = f .small;
+      }
+
 -- ---- one pass
-module _ (j : Job) (s n : ℕ) (heads : List ℕ) (seen : List Bool) (ws b : List ℕ) (k : Totals) (fits : Fits j ws b k) (set : Set (j .minimum) n s) (ws₁ ws₂ : List ℕ) (built : Built j s n ws ws₁ heads seen) (room : length ws₂ ≡ length ws) where
+module _ (j : Job) (s n : ℕ) (heads : List ℕ) (seen : List Bool) (ws b : List ℕ) (k : Totals) (fits : Fits j ws b k) (set : Set (j .minimum) n s) (ws₂ : List ℕ) where
   searching : Indexed j s n ws₂ heads seen → Searching j s n heads seen ws₂
   searching x =
       record {
@@ -74,26 +87,20 @@ module _ (j : Job) (s n : ℕ) (heads : List ℕ) (seen : List Bool) (ws b : Lis
       }
 
   -- The bounds filled, as the later passes do.
-  module _ (filled : FilledRows j s n heads seen ws₁ ws₂) where
-    filled-same : state j ws₂ ≡ state j ws
-    filled-same = filled .filled .same ∙ built .same
-
-    pub later-ready : Ready j ws₂ b k
-    later-ready = record { fits = unmoved-fits j ws ws₂ b k filled-same room fits; upper = filled .filled .upper }
+  module _ (filled : FilledRows j s n heads seen ws ws₂) where
+    pub later-ready : length ws₂ ≡ length ws → Ready j ws₂ b k
+    later-ready room = record { fits = unmoved-fits j ws ws₂ b k (filled .filled .same) room fits; upper = filled .filled .upper }
 
     pub later-searching : Searching j s n heads seen ws₂
     later-searching = searching (filled .indexed)
 
     pub later-over : (ws₃ b' : List ℕ) (k' : Totals) → Finished j s ws₂ b k ws₃ b' k' → Finished j s ws b k ws₃ b' k'
-    later-over = over filled-same
+    later-over = over (filled .filled .same)
 
   -- The longest run measured, as the first pass does.
-  module _ (r : ℕ) (measured : Measured j s n heads seen ws₁ ws₂ r) where
-    measured-same : state j ws₂ ≡ state j ws
-    measured-same = measured .same ∙ built .same
-
-    pub tried-ready : r ≤ 2 * s → Ready j ws₂ b k
-    tried-ready h = record { fits = unmoved-fits j ws ws₂ b k measured-same room fits; upper = measured .upper h }
+  module _ (r : ℕ) (measured : Measured j s n heads seen ws ws₂ r) where
+    pub tried-ready : length ws₂ ≡ length ws → r ≤ 2 * s → Ready j ws₂ b k
+    tried-ready room h = record { fits = unmoved-fits j ws ws₂ b k (measured .same) room fits; upper = measured .upper h }
 
     pub tried-searching : Searching j s n heads seen ws₂
     tried-searching = searching (measured .indexed)
@@ -101,11 +108,11 @@ module _ (j : Job) (s n : ℕ) (heads : List ℕ) (seen : List Bool) (ws b : Lis
     pub tried-greatest : r ≤ 2 * s → Greatest (bound j ws₂) (j .n) r
     tried-greatest h = measured .greatest h
 
-    pub tried-again : 2 * s < r → Tried j s ws b k ws₂ b k r
-    tried-again h =
+    pub tried-again : length ws₂ ≡ length ws → 2 * s < r → Tried j s ws b k ws₂ b k r
+    tried-again room h =
         record {
-          fits = unmoved-fits j ws ws₂ b k measured-same room fits;
-          onward = unmoved-onward j ws ws₂ b k measured-same;
+          fits = unmoved-fits j ws ws₂ b k (measured .same) room fits;
+          onward = unmoved-onward j ws ws₂ b k (measured .same);
           greater = omega arith;
           most = omega (arith, measured .small);
           short = λ l. absurd (omega (arith, measured .small));
@@ -113,7 +120,7 @@ module _ (j : Job) (s n : ℕ) (heads : List ℕ) (seen : List Bool) (ws b : Lis
 
     pub tried-over : (ws₃ b' : List ℕ) (k' : Totals) → Finished j s ws₂ b k ws₃ b' k' → Tried j s ws b k ws₃ b' k' 2049
     tried-over ws₃ b' k' e =
-        let f = over measured-same ws₃ b' k' e in
+        let f = over (measured .same) ws₃ b' k' e in
         record { fits = f .fits; onward = f .onward; greater = omega (arith, set .most); most = omega arith; short = λ l. f .short }
 
 -- ---- the first pass, tried at greater and greater search lengths

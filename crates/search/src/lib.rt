@@ -6,15 +6,17 @@ use tiling::Compared;
 ghost use mathlib.Core.Path.{_≡_};
 ghost use mathlib.Core.List.{map};
 ghost use Prim.Native.Nat.{_+_, _≤_, _<_, min, max};
-ghost use lib.ListN.{length};
+ghost use lib.ListN.{length, replicate};
 ghost use Rattle.symbol.specs.Word.{isCall};
 ghost use Rattle.tiling.specs.Tiling.{start, tiling, best};
 ghost use Rattle.tiling.specs.Listing.{listing};
 ghost use Rattle.tiling.specs.Comparing.{fastRefusal};
 ghost use Rattle.tile.specs.Listed.{listed};
-ghost use Rattle.sweep.specs.Workspace.{Space, state};
+ghost use Rattle.sweep.specs.Workspace.{Space, state, bound};
+ghost use Rattle.sweep.specs.Row.{Greatest};
 ghost use Rattle.sweep.specs.Progress.{Fits, Finished};
 ghost use Rattle.sweep.specs.Result.{Listed, Checked};
+ghost use Rattle.rows.specs.Reached.{FilledRows, Measured};
 ghost use Rattle.search.specs.Promise.{Fast};
 ghost use Rattle.search.specs.Passing.{Set, Tried, Stretch, longer};
 
@@ -28,6 +30,39 @@ struct Attempt {
 struct Passed {
     s: usize,
     totals: Totals,
+}
+
+// Builds the index of a pass, and measures the longest run by it.
+fn measure(
+    ws: &mut [u32],
+    job: Job,
+    s: usize,
+    hashing: Hashing,
+    heads: &mut [u32; 1024],
+    seen: &mut [bool; 16384],
+) -> usize
+    requires { ⌜ Space job (now ws) × Set (job .minimum) (hashing .buckets) s × (1 ≤ s) × (now heads ≡ replicate 1024 2048) ⌝ }
+    ensures { λ r. ⌜ Measured job s (hashing .buckets) (now (heads .exit)) (now (seen .exit)) (now (ws .entry)) (now (ws .exit)) r ⌝ }
+{
+    index::build(ws, job, hashing, s, heads, seen);
+    rows::longest(ws, job, s, hashing.buckets, heads, seen)
+}
+
+// Builds the index of a pass, sets the bounds of all rows by it, and answers the greatest.
+fn prepare(
+    ws: &mut [u32],
+    job: Job,
+    s: usize,
+    hashing: Hashing,
+    heads: &mut [u32; 1024],
+    seen: &mut [bool; 16384],
+) -> usize
+    requires { ⌜ Space job (now ws) × Set (job .minimum) (hashing .buckets) s × (1 ≤ s) × (now heads ≡ replicate 1024 2048) ⌝ }
+    ensures { λ r. ⌜ FilledRows job s (hashing .buckets) (now (heads .exit)) (now (seen .exit)) (now (ws .entry)) (now (ws .exit)) ⌝ }
+    ensures { λ r. ⌜ Greatest (bound job (now (ws .exit))) (job .n) r ⌝ }
+{
+    index::build(ws, job, hashing, s, heads, seen);
+    rows::fill_bounds(ws, job, s, hashing.buckets, heads, seen)
 }
 
 // Tries a pass. Where a run exceeds twice the search length, nothing is laid, and it is to be tried again at that run's
@@ -45,8 +80,7 @@ fn try_pass(
 {
     let mut heads = [2048u32; 1024];
     let mut seen = [false; 16384];
-    index::build(ws, job, hashing, s, &mut heads, &mut seen);
-    let long = rows::longest(ws, job, s, hashing.buckets, &heads, &seen);
+    let long = measure(ws, job, s, hashing, &mut heads, &mut seen);
     if 2 * s < long {
         return Attempt {
             again: long,
@@ -109,8 +143,7 @@ fn later_pass(
 {
     let mut heads = [2048u32; 1024];
     let mut seen = [false; 16384];
-    index::build(ws, job, hashing, s, &mut heads, &mut seen);
-    let top = rows::fill_bounds(ws, job, s, hashing.buckets, &heads, &seen);
+    let top = prepare(ws, job, s, hashing, &mut heads, &mut seen);
     levels::lay_levels(
         ws,
         job,

@@ -1,32 +1,37 @@
+-- `search::first_pass` meets its contract: at the head of each turn nothing as long as s is left, or the pass is to be tried at a greater length.
+-- Assumes nothing.
+use Prim.Native.Nat.{_-_}
+use Rattle.search.proofs.Passes.{Trying, trying-none, trying-set, trying-more, trying-less, trying-done}
+use borrow.Author.Needs.{needs}
 use Rattle.search.proofs.first_pass.Statement.{statement}
 use Rattle.search.proofs.first_pass.Tie as tie
 
 abbrev Inv-loop : tie.InvT-loop
-Inv-loop ws₀ job start hashing tiles₀ sum₀ s₀ next₀ ws tiles sum s next = ?
+Inv-loop ws₀ job start hashing tiles₀ sum₀ s₀ next₀ ws tiles sum s next = Trying job (hashing .buckets) ws₀ tiles₀ sum₀ ws tiles sum s next
 
 abbrev μ-loop : tie.MeasureT-loop
-μ-loop ws₀ job start hashing tiles₀ sum₀ s₀ next₀ ws tiles sum s next = ?
+μ-loop ws₀ job start hashing tiles₀ sum₀ s₀ next₀ ws tiles sum s next = 2049 - next
 
 loop-holds : tie.Need-loop-holds Inv-loop μ-loop
-loop-holds c = ?
+loop-holds c = search trying-none
 
 try-pass-requires : tie.Need-try-pass-requires Inv-loop μ-loop
-try-pass-requires c κs = ?
+try-pass-requires c κs = (search needs, search trying-set)
 
 loop-less : tie.Need-loop-less Inv-loop μ-loop
-loop-less c = ?
+loop-less c = search trying-less
 
 loop-again : tie.Need-loop-again Inv-loop μ-loop
-loop-again c = ?
+loop-again c = search trying-more
 
 same-length : tie.Need-same-length Inv-loop μ-loop
-same-length c = ?
+same-length c = search needs
 
 same-length-2 : tie.Need-same-length-2 Inv-loop μ-loop
-same-length-2 c = ?
+same-length-2 c = search needs
 
 returns : tie.Need-returns Inv-loop μ-loop
-returns c = ?
+returns c = (search trying-done, search needs)
 
 pub first-pass-spec : {M : Type 1} → statement M
 first-pass-spec =

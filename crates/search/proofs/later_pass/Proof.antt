@@ -1,15 +1,15 @@
+-- `search::later_pass` meets its contract: the bounds are filled, and every tile as long as the search length is laid.
+-- Assumes nothing.
+use Rattle.search.proofs.Passes.{later-ready, later-searching, later-over}
 use borrow.Author.Needs.{needs}
 use Rattle.search.proofs.later_pass.Statement.{statement}
 use Rattle.search.proofs.later_pass.Tie as tie
 
-build-requires : tie.Need-build-requires
-build-requires c κs = search needs
-
-fill-bounds-requires : tie.Need-fill-bounds-requires
-fill-bounds-requires c κs = search needs
+prepare-requires : tie.Need-prepare-requires
+prepare-requires c κs = search needs
 
 lay-levels-requires : tie.Need-lay-levels-requires
-lay-levels-requires c κs = ?
+lay-levels-requires c κs = (search later-ready, search later-searching, search needs)
 
 same-length : tie.Need-same-length
 same-length c = search needs
@@ -18,15 +18,8 @@ same-length-2 : tie.Need-same-length-2
 same-length-2 c = search needs
 
 returns : tie.Need-returns
-returns c = ?
+returns c = search later-over
 
 pub later-pass-spec : {M : Type 1} → statement M
 later-pass-spec =
-    tie.close
-    (tie.spec
-    build-requires
-    fill-bounds-requires
-    lay-levels-requires
-    same-length
-    same-length-2
-    returns)
+    tie.close (tie.spec prepare-requires lay-levels-requires same-length same-length-2 returns)
