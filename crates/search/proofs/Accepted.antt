@@ -1,12 +1,13 @@
 -- What an accepted comparison of the fast engine is known to have.
 -- Assumes nothing.
-use Prim.Native.Nat.{ℕ, min}
+use Prim.Native.Nat.{ℕ, _+_, _≤_, min}
 use mathlib.Core.Path.{_≡_, sym, _∙_}
 use mathlib.Core.List.{List}
 use lib.ListN.{length}
 use Rattle.tiling.specs.Comparing.{minimums, settings, room, fastRefusal}
 use Rattle.tiling.proofs.Comparing.{MinimumsClear, SettingsClear, RoomClear, sequences-clear, minimums-clear, settings-clear, room-clear}
 use Rattle.sweep.specs.Result.{Checked}
+use Rattle.sweep.proofs.Outcome.{total-small}
 use Rattle.search.specs.Passing.{Set}
 
 module _ (first second : List ℕ) (minimum buckets start : ℕ) (ws b : List ℕ) (r : ℕ) (e : r ≡ fastRefusal first second minimum buckets start (length ws) (length b)) (z : r ≡ 0) where
@@ -40,3 +41,6 @@ module _ (first second : List ℕ) (minimum buckets start : ℕ) (ws b : List �
         enough = of-settings .start-least;
         most = of-settings .start-most;
       }
+
+  pub total-fits : (total : ℕ) → total ≡ length first + length second → total ≤ 4096
+  total-fits = total-small first second minimum (length ws) b checked

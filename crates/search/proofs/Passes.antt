@@ -6,18 +6,22 @@ use Prim.Native.Nat.{ℕ, _+_, _-_, _*_, _≤_, _<_}
 use native.Mathlib.Omega.{arith}
 use mathlib.Core.Path.{_≡_, refl, _∙_, ap, subst}
 use mathlib.Core.Bool.{Bool}
-use mathlib.Core.List.{List}
+use mathlib.Core.List.{List, _++_, map}
 use lib.ListN.{length, drop}
 use Rattle.symbol.specs.Word.{isCall}
 use Rattle.tiling.specs.Tally.{tally}
-use Rattle.tiling.specs.Tiling.{best, size, lay}
+use Rattle.buffer.specs.Buffer.{onto}
+use Rattle.tiling.specs.Tiling.{best, size, lay, start, tiling}
 use Rattle.tiling.proofs.Greedy.{Greedy}
 use Rattle.tiling.proofs.Best.{best-is}
+use Rattle.tile.specs.Listed.{listed}
 use Rattle.sweep.specs.Workspace.{state, bound}
 use Rattle.sweep.specs.Row.{Greatest}
 use Rattle.sweep.specs.Progress.{Fits, Onward, Upper, Ready, Finished}
 use Rattle.sweep.specs.declared.Job.{Job}
 use Rattle.sweep.specs.declared.Totals.{Totals}
+use Rattle.sweep.specs.Result.{Listed, Checked}
+use Rattle.sweep.proofs.Pair.{job, pair-listed}
 use Rattle.sweep.proofs.Turn.{onward-none, onward-more}
 use Rattle.sweep.proofs.Workspace.{space-kept}
 use Rattle.index.specs.Indexed.{Indexed, Built}
@@ -222,3 +226,13 @@ module _ (j : Job) (n : ℕ) (ws₀ b₀ : List ℕ) (k₀ : Totals) (ws b : Lis
         onward = i .onward;
         short = omega (arith, best-is u .long, i .stretched .most (best u .p) (drop (best u .t) (u .text)));
       }
+
+-- ---- the first pass and the later ones
+joined : (j : Job) (s n : ℕ) (ws b ws₁ b₁ ws₂ b₂ : List ℕ) (k k₁ k₂ : Totals) → Finished j s ws b k ws₁ b₁ k₁ → Finished j n ws₁ b₁ k₁ ws₂ b₂ k₂ → Finished j n ws b k ws₂ b₂ k₂
+joined j s n ws b ws₁ b₁ ws₂ b₂ k k₁ k₂ e f =
+    record { fits = f .fits; onward = onward-more j ws b ws₁ b₁ ws₂ b₂ k k₁ k₂ (e .onward) (f .onward); short = f .short }
+
+pub passes-listed : (pattern text : List ℕ) (minimum : ℕ) (straight : Bool) (ws b : List ℕ) → Checked (length pattern) (length text) (length pattern) minimum (length ws) (length b) → (ws₁ : List ℕ) → ws₁ ≡ onto (pattern ++ text) ws → (s : ℕ) (ws₂ b₂ : List ℕ) (k₂ : Totals) → Finished (job pattern text minimum straight) s ws₁ b (record { count = 0; covered = 0 }) ws₂ b₂ k₂ → (ws₃ b₃ : List ℕ) (k₃ : Totals) → Finished (job pattern text minimum straight) minimum ws₂ b₂ k₂ ws₃ b₃ k₃ → Listed (map (listed straight) (tiling minimum (start pattern text))) b b₃ k₃
+passes-listed pattern text minimum straight ws b c ws₁ e s ws₂ b₂ k₂ f ws₃ b₃ k₃ g =
+    pair-listed pattern text minimum straight ws b c ws₁ e ws₃ b₃ k₃
+    (joined (job pattern text minimum straight) s minimum ws₁ b ws₂ b₂ ws₃ b₃ (record { count = 0; covered = 0 }) k₂ k₃ f g)

@@ -1,8 +1,6 @@
--- What an entry point gives, refused and accepted, where r is the refusal's number by the code and q by definition. The numbers of the answer
--- fit because what is covered lies within a sequence, and the tiles within what is covered.
+-- What an entry point gives, refused and accepted, where r is the refusal's number by the code and q by definition.
 -- Assumes nothing.
 use Prim.Native.Nat.{ℕ, _+_, _≤_, min}
-use native.Mathlib.Nat.{div-le-self}
 use native.Mathlib.Omega.{arith}
 use mathlib.Core.Path.{_≡_, sym, _∙_, ap}
 use mathlib.Core.List.{List}
@@ -13,7 +11,6 @@ use Rattle.buffer.specs.Buffer.{onto}
 use Rattle.tiling.specs.Run.{mark}
 use Rattle.tiling.specs.Listing.{Entry, listing, tileWords, covered, score}
 use Rattle.tiling.specs.Answer.{Compares}
-use Rattle.tiling.proofs.Demand.{covered-first, tiles-fit}
 use Rattle.tile.proofs.Marking.{mark-all}
 use Rattle.sweep.specs.Result.{Listed, Checked}
 use Rattle.sweep.specs.declared.Totals.{Totals}
@@ -49,16 +46,7 @@ module _ (first second : List ℕ) (minimum : ℕ) (ws b : List ℕ) (r q : ℕ)
         workspace = given r q e ws'' (replicate (length ws) 0) ws z u;
       }
 
--- ---- the numbers fit
+-- ---- the lengths
 module _ (first second : List ℕ) (minimum workspace : ℕ) (b : List ℕ) (c : Checked (length first) (length second) (min (length first) (length second)) minimum workspace (length b)) where
   pub total-small : (total : ℕ) → total ≡ length first + length second → total ≤ 4096
   total-small total k = omega (arith, k, c .short-first, c .short-second)
-
-  module _ (b' : List ℕ) (k : Totals) (l : Listed (listing first second minimum) b b' k) where
-    pub covered-small : k .covered ≤ 2048
-    covered-small = omega (arith, l .summed, covered-first first second minimum (c .least), c .short-first)
-
-    pub count-small : k .count ≤ 2048
-    count-small =
-        let n = div-le-self (min (length first) (length second)) minimum in
-        omega (arith, l .counted, tiles-fit first second minimum (c .least), n, c .short-first)

@@ -2,6 +2,7 @@
 -- nothing as long as the minimum is left at the end, so what was laid is what the greedy choice lays, and that is the tiling.
 -- Assumes nothing.
 use Prim.Native.Nat.{ℕ, _+_, _≤_, _<_, min}
+use native.Mathlib.Nat.{mul-le-mul-left, mul-one}
 use native.Mathlib.Omega.{arith}
 use mathlib.Core.Path.{_≡_, refl, sym, _∙_, ap, subst}
 use mathlib.Core.Bool.{Bool, true, false}
@@ -90,6 +91,8 @@ module _ (pattern text : List ℕ) (minimum : ℕ) (straight : Bool) where
             held = rw (← t) (l .held);
             counted = rw (← t) (l .counted ∙ sym (length-map (l .tiles) (listed straight)));
             summed = rw (← t) (l .summed);
+            few = omega (arith, mul-le-mul-left (k .count) (c .least), mul-one (k .count), e .fits .each, e .fits .free, c .short-first);
+            small = omega (arith, e .fits .free, c .short-first);
           }
 
     -- Where the bounds were filled first, and where they were not.

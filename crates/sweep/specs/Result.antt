@@ -17,8 +17,10 @@ pub record Checked (n m shorter minimum workspace tiles : ℕ) : Type 0 where
   pub work-room : 4 * (n + m) ≤ workspace
   pub tile-room : 3 * (shorter / minimum) ≤ tiles
 
--- The tiles are listed from the start of the buffer on, and counted.
+-- The tiles are listed from the start of the buffer on, and counted, and their numbers are small.
 pub record Listed (tiles : List Entry) (b b' : List ℕ) (k : Totals) : Type 0 where
   pub held : b' ≡ onto (tileWords tiles) b
   pub counted : k .count ≡ length tiles
   pub summed : k .covered ≡ covered tiles
+  pub few : k .count ≤ 2048
+  pub small : k .covered ≤ 2048

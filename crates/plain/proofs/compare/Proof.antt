@@ -2,7 +2,7 @@
 -- is cleared on the one way out.
 -- Assumes nothing.
 use Rattle.sweep.proofs.Outcome.{compare-refused, compare-accepted}
-use Rattle.plain.proofs.Accepted.{checked, total-fits, few-covered, covered-fits, count-fits}
+use Rattle.plain.proofs.Accepted.{checked, total-fits}
 use borrow.Author.Needs.{needs}
 use Rattle.plain.proofs.compare.Statement.{statement}
 use Rattle.plain.proofs.compare.Tie as tie
@@ -20,16 +20,16 @@ mark-words-requires : tie.Need-mark-words-requires
 mark-words-requires c κs = search needs
 
 cast-t19 : tie.Need-cast-t19
-cast-t19 c = search count-fits
+cast-t19 c = search needs
 
 cast-t20 : tie.Need-cast-t20
-cast-t20 c = search covered-fits
+cast-t20 c = search needs
 
 add-score-of : tie.Need-add-score-of
 add-score-of c = search needs
 
 score-of-requires : tie.Need-score-of-requires
-score-of-requires c κs = (search few-covered, search total-fits)
+score-of-requires c κs = (search needs, search total-fits)
 
 same-length : tie.Need-same-length
 same-length c = search needs
