@@ -11,4 +11,6 @@ pub mod random;
 pub mod records;
 pub mod reference;
 pub mod samples;
+pub mod series;
+pub mod wise;
 pub mod words;
