@@ -88,7 +88,15 @@ const WC3: [Source<usize>; 6] = [
     (457, 10_052_476_274, [3_853_468, 4_991_707_632], 1_470_864),
 ];
 
-/// The minimum of every series that has rows of several lengths.
+/// The series with rows of several lengths, and the exponents that 000 fits to RKR_GST at 20 and at half.
+/// Those of the random strings are fitted to ten rows.
+pub const EXPONENTS: [(&str, [f64; 2]); 3] = [
+    ("random", [1.12, 1.23]),
+    ("wc1", [2.29, 2.08]),
+    ("wc3", [0.98, 2.76]),
+];
+
+/// The minimum of these series.
 const MINIMUM: u32 = 3;
 
 /// The calls of tokens.
@@ -124,11 +132,11 @@ fn single(name: &str) -> Pair {
     }
 }
 
-/// A token below 32, the less often the greater it is: token r has weight 1 / (r + 1), which gives the
-/// four most frequent ones 51 of 100 occurrences.
+/// A token below 16, the less often the greater it is: token r has weight 1 / (r + 1), which gives the
+/// four most frequent ones 62 of 100 occurrences.
 fn skewed(random: &mut Random) -> u16 {
     loop {
-        let token = random.below(32);
+        let token = random.below(16);
         if random.one_in(token + 1) {
             return token as u16;
         }

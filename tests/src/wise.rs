@@ -182,12 +182,13 @@ struct Match {
     t: u16,
 }
 
-/// Matches of one length.
-#[derive(Default)]
-struct Queue {
-    matches: Vec<Match>,
-    /// Whether something was appended out of order.
-    mixed: bool,
+impl Match {
+    fn new(p: usize, t: usize) -> Self {
+        Self {
+            p: p as u16,
+            t: t as u16,
+        }
+    }
 }
 
 /// A pair under comparison.
@@ -196,7 +197,7 @@ struct Program {
     text: Side,
     table: Table,
     /// Matches by how much longer they are than the search length.
-    queues: Vec<Queue>,
+    queues: Vec<Vec<Match>>,
     /// Tiles in the order laid: p, t, length.
     tiles: Vec<[usize; 3]>,
     /// How many matches were queued.
@@ -204,19 +205,6 @@ struct Program {
 }
 
 impl Program {
-    /// Appends a match to the queue of its length.
-    fn enqueue(queues: &mut Vec<Queue>, above: usize, p: usize, t: usize) -> &mut Queue {
-        if queues.len() <= above {
-            queues.resize_with(above + 1, Queue::default);
-        }
-        let queue = &mut queues[above];
-        queue.matches.push(Match {
-            p: p as u16,
-            t: t as u16,
-        });
-        queue
-    }
-
     /// "scanpattern": queues every match of at least `s` words, its first `s` judged by their hash. If
     /// a match is longer than `longest`, answers its length at once, with the queues empty.
     fn scan(&mut self, s: usize, longest: usize) -> Option<usize> {
@@ -239,12 +227,15 @@ impl Program {
                 if s + above > longest {
                     return ControlFlow::Break(s + above);
                 }
-                Self::enqueue(queues, above, p, t);
+                if queues.len() <= above {
+                    queues.resize_with(above + 1, Vec::new);
+                }
+                queues[above].push(Match::new(p, t));
             }
             ControlFlow::Continue(())
         });
         let length = scanned.break_value()?;
-        queues.iter_mut().for_each(|queue| queue.matches.clear());
+        queues.iter_mut().for_each(Vec::clear);
         Some(length)
     }
 
@@ -271,11 +262,8 @@ impl Program {
     fn mark(&mut self, s: usize) {
         for above in (0..self.queues.len()).rev() {
             let mut queue = take(&mut self.queues[above]);
-            self.queued += queue.matches.len();
-            if take(&mut queue.mixed) {
-                queue.matches.sort();
-            }
-            for Match { p, t } in queue.matches.drain(..) {
+            self.queued += queue.len();
+            for Match { p, t } in queue.drain(..) {
                 let (p, t) = (usize::from(p), usize::from(t));
                 let left = self.left(p, t, s + above);
                 if left.len() == s + above {
@@ -285,8 +273,9 @@ impl Program {
                         self.tiles.push([p, t, s + above]);
                     }
                 } else if left.len() >= s {
-                    let (p, t) = (p + left.start, t + left.start);
-                    Self::enqueue(&mut self.queues, left.len() - s, p, t).mixed = true;
+                    let rest = Match::new(p + left.start, t + left.start);
+                    let queue = &mut self.queues[left.len() - s];
+                    queue.insert(queue.partition_point(|other| *other < rest), rest);
                 }
             }
             // Its room serves the next pass.
