@@ -9,8 +9,9 @@
 //! - A free stretch of exactly the search length is scanned: the text says that a shorter one is
 //!   skipped, the pseudocode also one of that length.
 //! - The words of a window with the right hash are compared when a tile is about to be laid, and not
-//!   while scanning; 000 recommends it, and its counts were taken so.
+//!   while scanning, as 000 recommends.
 //! - The list of queues is an array with a queue for each length, so no pointer moves along a list.
+//! - What is left of an occluded match is known from where the tiles over its ends start and end.
 //! - A queue is in the order of p, then t, and what an occluded match leaves is sorted in. So ties go
 //!   the way that 01 wants, and the tiles are those of the literal tiling, in its order.
 //! - A scan is begun anew at a greater search length only before the first tile, as 000 says that it
