@@ -21,7 +21,8 @@ test:
 library:
 	@rt staticlib capi
 
-# Times the engines beside the baselines, in one run; fails where an answer differs or a promised ratio is not reached.
+# Times the engines beside the baselines and counts their instructions, in one run; fails where an answer differs or a promise is
+# not kept. Needs valgrind.
 bench: library
 	@$(run) --release --bin benchmark
 

@@ -1,6 +1,8 @@
 //! What the test program and the benchmark share: the core's exported functions, a reference made
 //! apart from them, samples, and the groups of cases.
 
+pub mod baselines;
+pub mod benchmark;
 pub mod comparisons;
 pub mod core;
 pub mod group;
@@ -11,4 +13,6 @@ pub mod random;
 pub mod records;
 pub mod reference;
 pub mod samples;
+pub mod series;
+pub mod wise;
 pub mod words;

@@ -1,0 +1,29 @@
+//! The benchmark's baselines against the reference.
+
+use crate::group::Group;
+use crate::known::Letters;
+use crate::pairs::any_pair;
+use crate::reference::tiling;
+use crate::wise;
+
+/// The port of Wise's program lays the tiles of the literal tiling, in the same order, whatever its
+/// first search length.
+pub fn wise_random(g: &mut Group) {
+    for _ in 0..10_000 {
+        let codes = g.random.pick(&[1, 2, 2, 3, 4, 10]);
+        let longest = g.random.pick(&[8, 20, 60]);
+        let [first, second] = &any_pair(&mut g.random, longest, codes);
+        let minimum = g.random.pick(&[1, 1, 2, 3, 5]);
+        let start = minimum + g.random.below(30);
+        let (tiles, _) = wise::tiling(first, second, minimum, start);
+        g.equal(
+            format_args!(
+                "{} and {}, minimum {minimum}, first search length {start}",
+                Letters(first),
+                Letters(second)
+            ),
+            tiles,
+            tiling(first, second, minimum),
+        );
+    }
+}

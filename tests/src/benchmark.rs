@@ -1,0 +1,171 @@
+//! What the tables of the benchmark share: the columns, the comparisons, the promises, Markdown.
+
+pub mod counting;
+pub mod timing;
+
+use crate::core::{self, Compared, Settings};
+use crate::pairs::Pair;
+use crate::reference::{self, tile_words, workspace_words};
+use crate::wise;
+use std::hint::black_box;
+
+/// The first search length of the pair program, unless the minimum is larger.
+const START: u32 = 20;
+
+/// A way to compare: first, second, minimum, first search length, workspace, tile buffer.
+type Compare = fn(&[u32], &[u32], u32, u32, &mut [u32], &mut [u32]) -> Compared;
+
+/// A column of the tables.
+pub struct Column {
+    pub name: &'static str,
+    compare: Compare,
+}
+
+/// The core's engines.
+pub static PLAIN: Column = Column {
+    name: "plain engine",
+    compare: |first, second, minimum, _, workspace, tiles| {
+        core::compare_plain(first, second, minimum, workspace, tiles)
+    },
+};
+pub static FAST: Column = Column {
+    name: "fast engine",
+    compare: |first, second, minimum, start, workspace, tiles| {
+        let settings = Settings {
+            multiplier: 257,
+            buckets: 256,
+            start,
+        };
+        core::compare_fast(first, second, minimum, settings, workspace, tiles)
+    },
+};
+
+/// What they are measured against.
+pub static WISE: Column = Column {
+    name: "Wise's port",
+    compare: wise::compare,
+};
+pub static LITERAL: Column = Column {
+    name: "literal tiling",
+    compare: |first, second, minimum, _, workspace, tiles| {
+        reference::compare_plain(first, second, minimum, workspace, tiles)
+    },
+};
+
+/// A comparison, and the buffers lent to it, of exactly the size asked for. Between comparisons nothing
+/// clears them; each comparison leaves the workspace zero.
+pub struct Job {
+    name: String,
+    pair: Pair,
+    minimum: u32,
+    start: u32,
+    workspace: Vec<u32>,
+    tiles: Vec<u32>,
+}
+
+impl Job {
+    pub fn new(name: &str, pair: Pair, minimum: u32, start: u32) -> Self {
+        let [n, m] = pair.each_ref().map(Vec::len);
+        Self {
+            name: name.to_string(),
+            pair,
+            minimum,
+            start,
+            workspace: vec![0; workspace_words(n, m)],
+            tiles: vec![0; tile_words(n, m, minimum)],
+        }
+    }
+
+    fn run(&mut self, column: &Column) -> Compared {
+        let [first, second] = black_box(&self.pair);
+        let answer = (column.compare)(
+            first,
+            second,
+            black_box(self.minimum),
+            black_box(self.start),
+            &mut self.workspace,
+            &mut self.tiles,
+        );
+        black_box(answer)
+    }
+
+    /// The answer and what is left in both buffers, where every bit was set before.
+    fn outcome(&mut self, column: &Column) -> (Compared, Vec<u32>, Vec<u32>) {
+        self.workspace.fill(u32::MAX);
+        self.tiles.fill(u32::MAX);
+        let answer = self.run(column);
+        (answer, self.workspace.clone(), self.tiles.clone())
+    }
+
+    /// Whether the columns accept the pair, give the same answers and tiles and leave the same words.
+    fn agree(&mut self, columns: &[&Column]) -> bool {
+        let outcomes = Vec::from_iter(columns.iter().map(|column| self.outcome(column)));
+        let mut good = true;
+        for (column, outcome) in columns.iter().zip(&outcomes) {
+            if *outcome != outcomes[0] || outcome.0.refusal != 0 {
+                let (name, start, one) = (&self.name, self.start, columns[0].name);
+                println!(
+                    "FAILED {name}, first search length {start}: {one} and {} differ, or refuse",
+                    column.name
+                );
+                good = false;
+            }
+        }
+        good
+    }
+}
+
+/// What was promised, and what came of it.
+#[derive(Default)]
+pub struct Promises {
+    verdicts: Vec<String>,
+    broken: usize,
+}
+
+impl Promises {
+    /// Notes whether a promise is kept.
+    fn note(&mut self, promise: String, kept: bool) {
+        let verdict = if kept { "kept" } else { "NOT KEPT" };
+        self.verdicts.push(format!("- {promise}: {verdict}"));
+        self.broken += usize::from(!kept);
+    }
+
+    /// Notes what is not promised, and why.
+    fn except(&mut self, exception: String) {
+        self.verdicts.push(format!("- {exception}: not promised"));
+    }
+
+    /// Prints every promise; whether all are kept.
+    pub fn report(&self) -> bool {
+        println!("{}", self.verdicts.join("\n"));
+        self.broken == 0
+    }
+}
+
+/// A row of a Markdown table.
+fn row(cells: &[String]) {
+    println!("| {} |", cells.join(" | "));
+}
+
+/// Its head, with the line beneath: names on the left, numbers on the right.
+fn head(cells: &[String]) {
+    row(cells);
+    println!("|---|{}", "---:|".repeat(cells.len() - 1));
+}
+
+/// A number as it is shown, so that nothing is judged by digits that nobody sees.
+fn rounded(number: f64) -> f64 {
+    (100.0 * number).round() / 100.0
+}
+
+/// The exponent B of c = A s^B, fitted to sizes and costs: the slope of a straight line through their
+/// logarithms, by least squares.
+fn exponent(points: &[(f64, f64)]) -> f64 {
+    let count = points.len() as f64;
+    let logarithms = || points.iter().map(|(size, cost)| (size.ln(), cost.ln()));
+    let x = logarithms().map(|(x, _)| x).sum::<f64>() / count;
+    let y = logarithms().map(|(_, y)| y).sum::<f64>() / count;
+    let above: f64 = logarithms().map(|(a, b)| (a - x) * (b - y)).sum();
+    let below: f64 = logarithms().map(|(a, _)| (a - x) * (a - x)).sum();
+    above / below
+}
