@@ -3,10 +3,12 @@
 
 pub mod comparisons;
 pub mod core;
+pub mod engine;
 pub mod group;
 pub mod hashes;
 pub mod known;
 pub mod pairs;
+pub mod program;
 pub mod random;
 pub mod records;
 pub mod reference;
