@@ -201,32 +201,28 @@ impl From<[usize; 3]> for Tile {
     }
 }
 
-/// The pattern or the text: its words, and which of them a tile has marked.
-struct Side<'a> {
-    words: &'a [u32],
-    marked: Vec<bool>,
+/// The pattern or the text: the code of each word that is a call and unmarked.
+struct Side {
+    codes: Vec<Option<u32>>,
 }
 
-impl<'a> Side<'a> {
-    fn new(words: &'a [u32]) -> Self {
-        let marked = vec![false; words.len()];
-        Self { words, marked }
+impl Side {
+    /// "All words start unmarked."
+    fn new(words: &[u32]) -> Self {
+        let codes = words.iter().map(|&word| code(word)).collect();
+        Self { codes }
     }
 
     fn mark(&mut self, start: usize, length: usize) {
-        self.marked[start..start + length].fill(true);
+        self.codes[start..start + length].fill(None);
     }
 }
 
 /// The length of the run at (p, t): it stops "at the end of a strand, at a pair that doesn't match,
 /// or at a marked word on either side".
 fn run(pattern: &Side, p: usize, text: &Side, t: usize) -> usize {
-    let reach = (pattern.words.len() - p).min(text.words.len() - t);
-    let goes_on = |&k: &usize| {
-        let free = !pattern.marked[p + k] && !text.marked[t + k];
-        free && matches(pattern.words[p + k], text.words[t + k])
-    };
-    (0..reach).take_while(goes_on).count()
+    let pairs = pattern.codes[p..].iter().zip(&text.codes[t..]);
+    pairs.take_while(|(a, b)| a.is_some() && a == b).count()
 }
 
 /// "Among runs of at least the minimum length take the longest, on equal length the one with the
@@ -234,8 +230,8 @@ fn run(pattern: &Side, p: usize, text: &Side, t: usize) -> usize {
 fn best_run(pattern: &Side, text: &Side, minimum: usize) -> Option<(usize, usize, usize)> {
     let mut best = None;
     let mut wanted = minimum;
-    for p in 0..pattern.words.len() {
-        for t in 0..text.words.len() {
+    for p in 0..pattern.codes.len() {
+        for t in 0..text.codes.len() {
             let length = run(pattern, p, text, t);
             if length >= wanted {
                 best = Some((p, t, length));

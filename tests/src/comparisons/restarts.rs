@@ -16,13 +16,13 @@ fn low_minimum(random: &mut Random, length: usize) -> u32 {
     random.pick(&[1, 1, 2, 3, 5, 8, most, most]).min(most)
 }
 
-/// The fast engine with first search lengths around half of a length and around the length, and from
-/// the minimum on; the others at random.
+/// The fast engine with first search lengths of which the length is more than twice as long, twice as
+/// long or less: the minimum, one at either side of half the length, and another one.
 fn searching(random: &mut Random, length: usize, minimum: u32) -> Vec<Engine> {
     let length = length as u32;
-    let mut starts = vec![minimum, minimum + 1, 2 * minimum, length / 3];
-    starts.extend([(length - 1) / 2, length / 2, length / 2 + 1]);
-    starts.extend([length - 1, length, length + 1]);
+    let others = [2 * minimum, length / 3, length / 2 + 1, length, length + 1];
+    let other = random.pick(&others);
+    let mut starts = vec![minimum, (length - 1) / 2, length / 2, other];
     starts.retain(|start| (minimum..=MAX_WORDS as u32).contains(start));
     starts.sort_unstable();
     starts.dedup();
@@ -73,9 +73,10 @@ pub fn shorter_first(g: &mut Group) {
         let tiles = [[start, 0, length], [0, length + gap.len(), short]];
         let laid = tiles.iter().filter(|tile| tile[2] >= minimum as usize);
         let laid: Vec<Tile> = laid.map(|&tile| tile.into()).collect();
-        let engines = searching(random, length, minimum);
+        let table = searching(random, length, minimum);
+        let engines = [(); 2].map(|()| random.pick(&table));
         let problem = Problem::known([&pattern, &text], minimum, laid);
-        for engine in engines.into_iter().chain([Engine::Plain]) {
+        for engine in engines {
             let case = format_args!(
                 "{length} words of period {period} after {short} words, minimum {minimum}"
             );
@@ -122,7 +123,7 @@ pub fn in_a_row(g: &mut Group) {
         vec![682, 1_364],
         vec![681, 1_364],
     ];
-    for _ in 0..400 {
+    for _ in 0..200 {
         let random = &mut g.random;
         let mut lengths = Vec::new();
         let mut length = 1 + random.below(6);
@@ -144,15 +145,14 @@ pub fn in_a_row(g: &mut Group) {
         let ([first, second], tiles) = blocks(&mut g.random, &lengths);
         let pair: Sides = [&first, &second];
         let longest = lengths.iter().copied().max().unwrap_or(1);
-        for _ in 0..3 {
+        for _ in 0..2 {
             let random = &mut g.random;
             let minimum = random.pick(&[1, 1, 2, 3, 7, 20, 100, 256]);
             let mut laid = tiles.clone();
             laid.retain(|tile| tile.length >= minimum as usize);
             let problem = Problem::known(pair, minimum, laid);
-            let mut engines = searching(random, longest, minimum);
-            engines.extend(problem.engines(random));
-            for engine in engines {
+            let engines = searching(random, longest, minimum);
+            for engine in engines.into_iter().chain(problem.engines(random)) {
                 let case = format_args!("blocks of {lengths:?} words, minimum {minimum}");
                 problem.compare_by(g, case, engine, 0);
             }

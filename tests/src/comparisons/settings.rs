@@ -163,7 +163,7 @@ pub fn both_engines(g: &mut Group) {
         ("related", related(random, MAX_WORDS, 40), 1),
         ("related, few codes", related(random, MAX_WORDS, 4), 5),
         ("unrelated", unrelated(random, MAX_WORDS, 40), 3),
-        ("unrelated, few codes", unrelated(random, MAX_WORDS, 3), 9),
+        ("unrelated, few codes", unrelated(random, 1_500, 3), 9),
         ("identical", [whole.clone(), whole], 1),
         ("one code", [one_code.clone(), one_code.clone()], 1),
         ("one code, broken", [one_code, broken], 20),
@@ -184,7 +184,7 @@ pub fn both_engines(g: &mut Group) {
         for sides in both_orders(pair) {
             let (_, laid) = listed(Engine::Plain, sides, *minimum);
             let problem = Problem::known(sides, *minimum, laid);
-            for _ in 0..20 {
+            for _ in 0..5 {
                 let pattern = pattern_words(sides);
                 let engine = Engine::any_fast(&mut g.random, *minimum, pattern);
                 let [n, m] = sides.map(<[u32]>::len);
