@@ -1,6 +1,6 @@
 //! Blocks that are longer than twice the search length, at which a search begins again: of every
-//! length, after shorter ones, and one after another. The pairs are built so that their tiles are
-//! known beforehand.
+//! length, after shorter ones, and one after another. Where the reference does not tile a pair, it is
+//! built so that its tiles are known beforehand.
 
 use super::{Problem, Sides};
 use crate::engine::Engine;
@@ -53,7 +53,7 @@ pub fn every_length(g: &mut Group) {
     }
 }
 
-/// A block of one code or two, or of a period, whose windows are found in many places, after a
+/// A block of one code or of a longer period, whose windows are found in many places, after a
 /// shorter block; the text has them the other way round.
 pub fn shorter_first(g: &mut Group) {
     for length in 2..=MAX_WORDS {
