@@ -1,17 +1,24 @@
-//! Comparisons by the plain engine: each answer, each word of the tile buffer and each word of the
+//! Comparisons by both engines: each answer, each word of the tile buffer and each word of the
 //! workspace, which is dirty before.
 
 pub mod laws;
 pub mod limits;
 pub mod mistakes;
+pub mod restarts;
+pub mod settings;
 
 use crate::core::{self, Compared};
+use crate::engine::{starts, Engine, BUCKETS, MULTIPLIERS};
 use crate::group::Group;
-use crate::known::{self, Letters};
+use crate::known::{self, Letters, LISTING};
 use crate::pairs::{any_pair, calls, distinct, periodic, related, unrelated, Pair};
+use crate::random::Random;
 use crate::records::WORKED;
-use crate::reference::{self, accept, tile_words, workspace_words, Tile, MAX_WORDS};
+use crate::reference::{
+    self, listing, tile_words, tiling, workspace_words, Tile, MAX_MINIMUM, MAX_WORDS,
+};
 use crate::samples::{call, NO_CALL};
+use std::cell::OnceCell;
 use std::fmt::Arguments;
 
 /// A pair as it is handed in, first and second.
@@ -23,106 +30,175 @@ fn both_orders(pair: &Pair) -> [Sides<'_>; 2] {
     [[first, second], [second, first]]
 }
 
-/// How many words of workspace and of tile buffer a pair asks for.
-fn needed([first, second]: Sides, minimum: u32) -> [usize; 2] {
-    [
-        workspace_words(first.len(), second.len()),
-        tile_words(first.len(), second.len(), minimum),
-    ]
+/// The length of the pattern, which is the shorter sequence.
+fn pattern_words([first, second]: Sides) -> usize {
+    first.len().min(second.len())
 }
 
-/// What the pair asks for, exactly or with some words to spare.
-fn enough(g: &mut Group, pair: Sides, minimum: u32) -> [usize; 2] {
-    needed(pair, minimum).map(|room| room + g.random.pick(&[0, 0, 1, 40]))
+/// The plain engine, and the fast one with two settings that are accepted at a minimum.
+fn engines(random: &mut Random, pair: Sides, minimum: u32) -> [Engine; 3] {
+    let pattern = pattern_words(pair);
+    let [one, other] = [(); 2].map(|()| Engine::any_fast(random, minimum, pattern));
+    [Engine::Plain, one, other]
 }
 
-/// Compares a pair in a workspace and a tile buffer that hold these words.
-fn compare_holding(
-    g: &mut Group,
-    case: Arguments,
-    [first, second]: Sides,
+/// The fast engine with every setting of the tables that is accepted at a minimum.
+fn every_fast(pair: Sides, minimum: u32) -> Vec<Engine> {
+    let mut engines = Vec::new();
+    for multiplier in MULTIPLIERS {
+        for buckets in BUCKETS {
+            let starts = starts(minimum, pattern_words(pair)).into_iter();
+            engines.extend(starts.map(|start| Engine::fast(multiplier, buckets, start)));
+        }
+    }
+    engines
+}
+
+/// A pair to compare at a minimum. Its tiles are the same for every engine; they are found once, and
+/// only where a comparison is accepted.
+struct Problem<'a> {
+    pair: Sides<'a>,
     minimum: u32,
-    held: [Vec<u32>; 2],
-    refusal: Option<u32>,
-) {
-    g.lend_holding(
-        case,
-        held,
-        refusal,
-        |[workspace, tiles]| core::compare_plain(first, second, minimum, workspace, tiles),
-        |[workspace, tiles]| reference::compare_plain(first, second, minimum, workspace, tiles),
-    );
+    laid: OnceCell<Vec<Tile>>,
 }
 
-/// Compares a pair in a workspace and a tile buffer of so many random words.
-fn compare_in(
-    g: &mut Group,
-    case: Arguments,
-    pair: Sides,
-    minimum: u32,
-    rooms: [usize; 2],
-    refusal: Option<u32>,
-) {
-    let held = rooms.map(|room| g.random.words(room));
-    compare_holding(g, case, pair, minimum, held, refusal);
+impl<'a> Problem<'a> {
+    /// A pair that the reference tiles.
+    fn new(pair: Sides<'a>, minimum: u32) -> Self {
+        let laid = OnceCell::new();
+        Self {
+            pair,
+            minimum,
+            laid,
+        }
+    }
+
+    /// A pair whose tiles are known beforehand.
+    fn known(pair: Sides<'a>, minimum: u32, laid: Vec<Tile>) -> Self {
+        let laid = laid.into();
+        Self {
+            pair,
+            minimum,
+            laid,
+        }
+    }
+
+    /// The plain engine, and the fast one with two settings that are accepted.
+    fn engines(&self, random: &mut Random) -> [Engine; 3] {
+        engines(random, self.pair, self.minimum)
+    }
+
+    /// How many words of workspace and of tile buffer are asked for. A minimum that is refused leaves
+    /// open how many tiles there is to be room for; this takes the nearest one that is accepted.
+    fn needed(&self) -> [usize; 2] {
+        let [first, second] = self.pair.map(<[u32]>::len);
+        let minimum = self.minimum.clamp(1, MAX_MINIMUM);
+        [
+            workspace_words(first, second),
+            tile_words(first, second, minimum),
+        ]
+    }
+
+    /// What is asked for, exactly or with some words to spare.
+    fn enough(&self, random: &mut Random) -> [usize; 2] {
+        self.needed().map(|room| room + random.pick(&[0, 0, 1, 40]))
+    }
+
+    /// Compares in a workspace and a tile buffer that hold these words. The refusal is the one that
+    /// the case is made for, 0 for none.
+    fn compare_holding(
+        &self,
+        g: &mut Group,
+        case: Arguments,
+        engine: Engine,
+        held: [Vec<u32>; 2],
+        refusal: u32,
+    ) {
+        let Self {
+            pair,
+            minimum,
+            ref laid,
+        } = *self;
+        let tiling = || tiling(pair[0], pair[1], minimum as usize);
+        let laid = || &laid.get_or_init(tiling)[..];
+        g.lend_holding(
+            format_args!("{engine}: {case}"),
+            held,
+            Some(refusal),
+            |[workspace, tiles]| engine.compare(pair, minimum, workspace, tiles),
+            |[workspace, tiles]| reference::compare(engine, pair, minimum, laid, workspace, tiles),
+        );
+    }
+
+    /// Compares in a workspace and a tile buffer of so many random words.
+    fn compare_in(
+        &self,
+        g: &mut Group,
+        case: Arguments,
+        engine: Engine,
+        rooms: [usize; 2],
+        refusal: u32,
+    ) {
+        let held = rooms.map(|room| g.random.words(room));
+        self.compare_holding(g, case, engine, held, refusal);
+    }
+
+    /// Compares by an engine that refuses with a number for another reason than its buffers, or
+    /// with 0 accepts.
+    fn compare_by(&self, g: &mut Group, case: Arguments, engine: Engine, refusal: u32) {
+        let rooms = self.enough(&mut g.random);
+        self.compare_in(g, case, engine, rooms, refusal);
+    }
+
+    /// Compares by both engines, which accept.
+    fn compare(&self, g: &mut Group, case: Arguments) {
+        for engine in self.engines(&mut g.random) {
+            self.compare_by(g, case, engine, 0);
+        }
+    }
 }
 
 /// Compares a pair that is accepted.
 fn compare(g: &mut Group, case: Arguments, pair: Sides, minimum: u32) {
-    let rooms = enough(g, pair, minimum);
-    compare_in(g, case, pair, minimum, rooms, Some(0));
+    Problem::new(pair, minimum).compare(g, case);
 }
 
 /// A pair that is accepted and whose tiles are known beforehand.
 fn expect(g: &mut Group, case: Arguments, pair: Sides, minimum: u32, laid: &[Tile]) {
-    let rooms = enough(g, pair, minimum);
-    let [first, second] = pair;
-    g.lend(
-        case,
-        rooms,
-        Some(0),
-        |[workspace, tiles]| core::compare_plain(first, second, minimum, workspace, tiles),
-        |[workspace, tiles]| accept(laid, pair.map(<[u32]>::len), workspace, tiles),
-    );
+    Problem::known(pair, minimum, laid.to_vec()).compare(g, case);
 }
 
-/// The core's answer to a pair that is accepted, and the tiles that it lists.
-fn listed(pair: Sides, minimum: u32) -> (Compared, Vec<Tile>) {
-    let [mut workspace, mut tiles] = needed(pair, minimum).map(|room| vec![0; room]);
-    let [first, second] = pair;
-    let answer = core::compare_plain(first, second, minimum, &mut workspace, &mut tiles);
+/// An engine's answer to a pair that is accepted, and the tiles that it lists.
+fn listed(engine: Engine, pair: Sides, minimum: u32) -> (Compared, Vec<Tile>) {
+    let rooms = Problem::new(pair, minimum).needed();
+    let [mut workspace, mut tiles] = rooms.map(|room| vec![0; room]);
+    let answer = engine.compare(pair, minimum, &mut workspace, &mut tiles);
     let rows = tiles.chunks_exact(3).take(answer.tiles as usize);
     let rows = rows.map(|row| Tile::from([row[0], row[1], row[2]].map(|word| word as usize)));
     (answer, rows.collect())
 }
 
-/// 01's listing of fish 12 and fish 13 at minimum 1.
-const LISTING: &str = "\
-FISH 12 13
-MINIMUM 1
-TILES 3
-1 7 5 6
-0 4 1 4
-6 3 1 -3
-COVERED 7 OF 7 12
-SCORE 736
-";
-
-/// K1 to K11, and the worked example from its two records to its listing.
+/// K1 to K11 with every setting of the tables, and the worked example from its two records to its
+/// listing.
 pub fn known(g: &mut Group) {
     for row in known::rows() {
         let name = row.name;
         let pair = [&row.first[..], &row.second];
         let minimum = row.minimum as u32;
-        expect(g, format_args!("{name}"), pair, minimum, &row.tiles);
         let expected = Compared {
             refusal: 0,
             tiles: row.tiles.len() as u32,
             covered: row.covered as u32,
             score: row.score as u32,
         };
-        let (answer, _) = listed(pair, minimum);
-        g.equal(format_args!("answer of {name}"), answer, expected);
+        let problem = Problem::known(pair, minimum, row.tiles);
+        let every = every_fast(pair, minimum);
+        for engine in [Engine::Plain].into_iter().chain(every) {
+            problem.compare_by(g, format_args!("{name}"), engine, 0);
+            let (answer, _) = listed(engine, pair, minimum);
+            let case = format_args!("{engine}: answer of {name}");
+            g.equal(case, answer, expected);
+        }
         for pair in both_orders(&pair.map(<[u32]>::to_vec)) {
             for minimum in 1..=8 {
                 let case = format_args!("words of {name} at minimum {minimum}");
@@ -137,17 +213,14 @@ pub fn known(g: &mut Group) {
         let read = core::read(&record, &mut sequence);
         (sequence, read.id)
     });
-    let (answer, tiles) = listed([&first, &second], 1);
-    let mut listing = format!("FISH {first_id} {second_id}\nMINIMUM 1\n");
-    listing += &format!("TILES {}\n", answer.tiles);
-    for tile in tiles {
-        let shift = tile.second as i64 - tile.first as i64;
-        listing += &format!("{} {} {} {shift}\n", tile.first, tile.second, tile.length);
+    let pair = [&first[..], &second];
+    for engine in engines(&mut g.random, pair, 1) {
+        let (_, tiles) = listed(engine, pair, 1);
+        let lengths = pair.map(<[u32]>::len);
+        let listing = listing([first_id, second_id], lengths, 1, &tiles);
+        let case = format_args!("{engine}: worked example");
+        g.equal(case, &listing[..], LISTING);
     }
-    let (n, m) = (first.len(), second.len());
-    listing += &format!("COVERED {} OF {n} {m}\n", answer.covered);
-    listing += &format!("SCORE {}\n", answer.score);
-    g.equal(format_args!("worked example"), &listing[..], LISTING);
 }
 
 /// Every sequence of up to `longest` words that are all in the table.
@@ -280,7 +353,8 @@ pub fn held(g: &mut Group) {
         let pair = any_pair(&mut g.random, 60, 4);
         let [first, second] = &pair;
         let minimum = g.random.pick(&[1, 2, 3]);
-        let rooms = enough(g, [first, second], minimum);
+        let problem = Problem::new([first, second], minimum);
+        let rooms = problem.enough(&mut g.random);
         let words = [&first[..], second].concat();
         let table: [(&str, &[u32]); 8] = [
             ("zeros", &[0]),
@@ -293,9 +367,11 @@ pub fn held(g: &mut Group) {
             ("the pair", &words),
         ];
         for (name, words) in table {
-            let held = rooms.map(|room| words.iter().copied().cycle().take(room).collect());
             let case = format_args!("pair {number}, minimum {minimum}, {name} before");
-            compare_holding(g, case, [first, second], minimum, held, Some(0));
+            for engine in problem.engines(&mut g.random) {
+                let held = rooms.map(|room| words.iter().copied().cycle().take(room).collect());
+                problem.compare_holding(g, case, engine, held, 0);
+            }
         }
     }
 }

@@ -52,6 +52,8 @@ pub struct Group {
     pub random: Random,
     cases: usize,
     failures: usize,
+    /// Lines about differences.
+    report: String,
 }
 
 impl Group {
@@ -62,6 +64,7 @@ impl Group {
             random: Random::new(seed),
             cases: 0,
             failures: 0,
+            report: String::new(),
         }
     }
 
@@ -142,20 +145,20 @@ impl Group {
     fn fail(&mut self, case: Arguments, difference: Arguments) {
         self.failures += 1;
         if self.failures <= SHOWN {
-            println!("FAILED {}, {case}: {difference}", self.name);
+            self.report += &format!("FAILED {}, {case}: {difference}\n", self.name);
         }
     }
 
-    /// Prints the group's line; true where it had cases and none failed.
-    pub fn finish(self) -> bool {
+    /// The group's lines, and whether it had cases and none failed.
+    pub fn finish(self) -> (String, bool) {
         let failed = match self.failures {
             0 => String::new(),
             failures => format!(", {failures} FAILED"),
         };
-        println!(
-            "{:<28} {:>9} cases, seed {}{failed}",
+        let line = format!(
+            "{:<32} {:>9} cases, seed {}{failed}\n",
             self.name, self.cases, self.seed
         );
-        self.cases > 0 && self.failures == 0
+        (self.report + &line, self.cases > 0 && self.failures == 0)
     }
 }

@@ -1,6 +1,7 @@
 //! The list of window hashes.
 
 use crate::core;
+use crate::engine::MULTIPLIERS;
 use crate::group::Group;
 use crate::reference::{self, MAX_WORDS, ROOM, TOO_LONG, UNSOUND, WINDOW};
 use crate::samples::{
@@ -8,9 +9,6 @@ use crate::samples::{
     NO_CALL,
 };
 use std::fmt::Arguments;
-
-/// Multipliers at the ends, those with few bits, and 01's 257.
-const MULTIPLIERS: [u32; 7] = [0, 1, 2, 10, 257, 1 << 31, u32::MAX];
 
 /// Compares the list of hashes for a multiplier and a window, in a buffer of `room` words.
 fn hash_list(

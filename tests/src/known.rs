@@ -1,7 +1,8 @@
-//! The reference itself against 01's table: the pairs K1 to K11 and the windows K12.
+//! The reference itself against 01: the pairs K1 to K11, the windows K12 and the worked example.
 
 use crate::group::Group;
-use crate::reference::{covered, score, tiling, window_hashes, Tile};
+use crate::program::{bytes, worked};
+use crate::reference::{covered, pair_program, score, tiling, window_hashes, Tile};
 use crate::samples::{call, NO_CALL};
 use std::fmt::{self, Display, Formatter};
 
@@ -30,6 +31,18 @@ const PAIRS: [Row; 11] = [
     ("K10", "aba", "abba", 2, &[[0, 0, 2]], 2, 571),
     ("K11", "abcde", "cdeab", 2, &[[2, 0, 3], [0, 3, 2]], 5, 1000),
 ];
+
+/// 01's listing of fish 12 and fish 13 at minimum 1.
+pub const LISTING: &str = "\
+FISH 12 13
+MINIMUM 1
+TILES 3
+1 7 5 6
+0 4 1 4
+6 3 1 -3
+COVERED 7 OF 7 12
+SCORE 736
+";
 
 /// "Writing a to d for calls of codes 1 to 4", e is code 5, ? a no-call.
 pub fn letters(letters: &str) -> Vec<u32> {
@@ -112,4 +125,10 @@ pub fn windows(g: &mut Group) {
             hashes.to_vec(),
         );
     }
+}
+
+/// What the pair program prints of 01's two records.
+pub fn example(g: &mut Group) {
+    let printed = pair_program(&bytes(&worked()));
+    g.equal(format_args!("worked example"), &printed[..], LISTING);
 }

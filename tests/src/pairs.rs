@@ -30,6 +30,15 @@ pub fn periodic(length: usize, period: usize, phase: usize) -> Vec<u32> {
     codes.map(call).collect()
 }
 
+/// 0 to `n - 1` in any order.
+pub fn shuffled(random: &mut Random, n: usize) -> Vec<usize> {
+    let mut order: Vec<usize> = (0..n).collect();
+    for i in (1..n).rev() {
+        order.swap(i, random.below(i + 1));
+    }
+    order
+}
+
 /// A stretch of 1 to `longest` words within the first `length` ones.
 fn stretch(random: &mut Random, length: usize, longest: usize) -> Range<usize> {
     let size = 1 + random.below(longest.min(length));

@@ -2,7 +2,9 @@
 //! core. The comments quote 01; a sequence is its strand, a record its strip, a header its heading,
 //! a trailer its closing word and an id its fish number.
 
-use crate::core::{Compared, Counted, ReadAnswer};
+use crate::core::{Compared, Counted, ReadAnswer, Settings};
+use crate::engine::Engine;
+use std::borrow::Borrow;
 
 /// "A strand is 0 to 2,048 words [..]."
 pub const MAX_WORDS: usize = 2_048;
@@ -10,10 +12,15 @@ pub const MAX_WORDS: usize = 2_048;
 /// "Minimum not 1 to 256" is refused.
 pub const MAX_MINIMUM: u32 = 256;
 
+/// "Bucket count not 1 to 1,024" is refused.
+pub const MAX_BUCKETS: u32 = 1_024;
+
 // The refusals' numbers in 01's table.
 pub const TOO_LONG: u32 = 1;
 pub const UNSOUND: u32 = 2;
 pub const MINIMUM: u32 = 3;
+pub const BUCKETS: u32 = 4;
+/// Of the hash list's window, and of the fast engine's first search length.
 pub const WINDOW: u32 = 5;
 pub const WORKSPACE: u32 = 6;
 pub const TILES: u32 = 7;
@@ -194,32 +201,28 @@ impl From<[usize; 3]> for Tile {
     }
 }
 
-/// The pattern or the text: its words, and which of them a tile has marked.
-struct Side<'a> {
-    words: &'a [u32],
-    marked: Vec<bool>,
+/// The pattern or the text: the code of each word that is a call and unmarked.
+struct Side {
+    codes: Vec<Option<u32>>,
 }
 
-impl<'a> Side<'a> {
-    fn new(words: &'a [u32]) -> Self {
-        let marked = vec![false; words.len()];
-        Self { words, marked }
+impl Side {
+    /// "All words start unmarked."
+    fn new(words: &[u32]) -> Self {
+        let codes = words.iter().map(|&word| code(word)).collect();
+        Self { codes }
     }
 
     fn mark(&mut self, start: usize, length: usize) {
-        self.marked[start..start + length].fill(true);
+        self.codes[start..start + length].fill(None);
     }
 }
 
 /// The length of the run at (p, t): it stops "at the end of a strand, at a pair that doesn't match,
 /// or at a marked word on either side".
 fn run(pattern: &Side, p: usize, text: &Side, t: usize) -> usize {
-    let reach = (pattern.words.len() - p).min(text.words.len() - t);
-    let goes_on = |&k: &usize| {
-        let free = !pattern.marked[p + k] && !text.marked[t + k];
-        free && matches(pattern.words[p + k], text.words[t + k])
-    };
-    (0..reach).take_while(goes_on).count()
+    let pairs = pattern.codes[p..].iter().zip(&text.codes[t..]);
+    pairs.take_while(|(a, b)| a.is_some() && a == b).count()
 }
 
 /// "Among runs of at least the minimum length take the longest, on equal length the one with the
@@ -227,8 +230,8 @@ fn run(pattern: &Side, p: usize, text: &Side, t: usize) -> usize {
 fn best_run(pattern: &Side, text: &Side, minimum: usize) -> Option<(usize, usize, usize)> {
     let mut best = None;
     let mut wanted = minimum;
-    for p in 0..pattern.words.len() {
-        for t in 0..text.words.len() {
+    for p in 0..pattern.codes.len() {
+        for t in 0..text.codes.len() {
             let length = run(pattern, p, text, t);
             if length >= wanted {
                 best = Some((p, t, length));
@@ -284,17 +287,23 @@ pub fn tile_words(first: usize, second: usize, minimum: u32) -> usize {
     3 * (first.min(second) / minimum as usize)
 }
 
-/// "Comparing checks 1 to 7 in that order"; 4 and 5 are the fast engine's.
-fn check_plain(
+/// "Comparing checks 1 to 7 in that order"; 4 and 5 are the fast engine's. `rooms` are the words of
+/// the workspace and of the tile buffer.
+fn check(
+    engine: Engine,
     sequences: [&[u32]; 2],
     minimum: u32,
-    workspace: usize,
-    tiles: usize,
+    rooms: [usize; 2],
 ) -> Result<(), u32> {
     let [first, second] = sequences.map(<[u32]>::len);
+    let [workspace, tiles] = rooms;
     refuse(first > MAX_WORDS || second > MAX_WORDS, TOO_LONG)?;
     refuse(!sequences.into_iter().all(all_sound), UNSOUND)?;
     refuse(!(1..=MAX_MINIMUM).contains(&minimum), MINIMUM)?;
+    if let Engine::Fast(Settings { buckets, start, .. }) = engine {
+        refuse(!(1..=MAX_BUCKETS).contains(&buckets), BUCKETS)?;
+        refuse(start < minimum || start > MAX_WORDS as u32, WINDOW)?;
+    }
     refuse(workspace < workspace_words(first, second), WORKSPACE)?;
     refuse(tiles < tile_words(first, second, minimum), TILES)
 }
@@ -302,7 +311,7 @@ fn check_plain(
 /// What an accepted comparison of two sequences of these lengths answers and leaves behind, for the
 /// tiles in the order laid: "the whole lent workspace is zero", and "words beyond the last tile keep
 /// their values".
-pub fn accept(
+fn accept(
     laid: &[Tile],
     [first, second]: [usize; 2],
     workspace: &mut [u32],
@@ -321,6 +330,32 @@ pub fn accept(
     }
 }
 
+/// Compares two sequences as an engine must; `laid` gives their tiles and is only asked where the
+/// comparison is accepted. Settings decide about a refusal and about nothing else.
+pub fn compare<T: Borrow<[Tile]>>(
+    engine: Engine,
+    sequences: [&[u32]; 2],
+    minimum: u32,
+    laid: impl FnOnce() -> T,
+    workspace: &mut [u32],
+    tiles: &mut [u32],
+) -> Compared {
+    match check(engine, sequences, minimum, [workspace.len(), tiles.len()]) {
+        Err(refusal) => Compared {
+            refusal,
+            tiles: 0,
+            covered: 0,
+            score: 0,
+        },
+        Ok(()) => accept(
+            laid().borrow(),
+            sequences.map(<[u32]>::len),
+            workspace,
+            tiles,
+        ),
+    }
+}
+
 /// Compares two sequences as the plain engine must.
 pub fn compare_plain(
     first: &[u32],
@@ -329,16 +364,50 @@ pub fn compare_plain(
     workspace: &mut [u32],
     tiles: &mut [u32],
 ) -> Compared {
-    match check_plain([first, second], minimum, workspace.len(), tiles.len()) {
-        Err(refusal) => Compared {
-            refusal,
-            tiles: 0,
-            covered: 0,
-            score: 0,
-        },
-        Ok(()) => {
-            let laid = tiling(first, second, minimum as usize);
-            accept(&laid, [first.len(), second.len()], workspace, tiles)
-        }
+    let laid = || tiling(first, second, minimum as usize);
+    let sequences = [first, second];
+    compare(Engine::Plain, sequences, minimum, laid, workspace, tiles)
+}
+
+/// What is printed of a comparison: "fish numbers; minimum; tile count; per tile first start, second
+/// start, length, shift; covered and both lengths; score". The shift is "its second start minus its
+/// first".
+pub fn listing(ids: [u32; 2], lengths: [usize; 2], minimum: u32, laid: &[Tile]) -> String {
+    let [first, second] = lengths;
+    let covered = covered(laid);
+    let mut lines = format!("FISH {} {}\nMINIMUM {minimum}\n", ids[0], ids[1]);
+    lines += &format!("TILES {}\n", laid.len());
+    for tile in laid {
+        let shift = tile.second as i64 - tile.first as i64;
+        lines += &format!("{} {} {} {shift}\n", tile.first, tile.second, tile.length);
     }
+    lines += &format!("COVERED {covered} OF {first} {second}\n");
+    lines + &format!("SCORE {}\n", score(covered, first, second))
+}
+
+/// The listing that the pair program prints, or the refusal's number: "one word holding the minimum,
+/// then two strips"; "the first strip is read, then the second, then the pair is compared".
+fn list_pair(input: &[u8]) -> Result<String, u32> {
+    // "In a file each word is four bytes, lowest byte first", and "a last part of fewer than four
+    // bytes is dropped".
+    let bytes = input.chunks_exact(4);
+    let words: Vec<u32> = bytes
+        .map(|word| u32::from_le_bytes([word[0], word[1], word[2], word[3]]))
+        .collect();
+    let (&minimum, records) = words.split_first().ok_or(CUT)?;
+    let (first_id, first) = parse(records, MAX_WORDS)?;
+    let (second_id, second) = parse(&records[first.len() + 2..], MAX_WORDS)?;
+    // "Multiplier 257, 256 buckets and first search length 20, or the minimum if larger."
+    let engine = Engine::fast(257, 256, minimum.max(20));
+    // Its own buffers are large enough.
+    check(engine, [first, second], minimum, [usize::MAX; 2])?;
+    let laid = tiling(first, second, minimum as usize);
+    let lengths = [first.len(), second.len()];
+    Ok(listing([first_id, second_id], lengths, minimum, &laid))
+}
+
+/// What the pair program prints for these bytes on its standard input: "a refusal prints one line,
+/// REFUSED and its number".
+pub fn pair_program(input: &[u8]) -> String {
+    list_pair(input).unwrap_or_else(|number| format!("REFUSED {number}\n"))
 }

@@ -1,66 +1,95 @@
-//! Compares the core's exported functions with a reference made apart from it. Each group prints a
-//! line with its name, its number of cases and its seed; a difference makes the exit status 1.
+//! Compares the core's exported functions and the pair program with a reference made apart from the
+//! core. Each group prints a line with its name, its number of cases and its seed; a difference makes
+//! the exit status 1.
 
-use sigxume_tests::comparisons::{self, laws, limits, mistakes};
+use sigxume_tests::comparisons::{self, laws, limits, mistakes, restarts, settings};
 use sigxume_tests::group::Group;
-use sigxume_tests::{hashes, known, records, words};
+use sigxume_tests::{hashes, known, program, records, words};
 use std::process::ExitCode;
+use std::thread;
 
 /// A group's name, its seed and its cases.
 type Row = (&'static str, u64, fn(&mut Group));
 
 #[rustfmt::skip]
-const GROUPS: [Row; 41] = [
+const GROUPS: [Row; 59] = [
     ("reference: known pairs", 1, known::pairs),
     ("reference: known windows", 2, known::windows),
-    ("match: boundary words", 3, words::match_boundaries),
-    ("match: every code", 4, words::match_codes),
-    ("match: random pairs", 5, words::match_random),
-    ("sound: single words", 6, words::sound_words),
-    ("sound: sequences", 7, words::sound_sequences),
-    ("record: worked example", 8, records::worked),
-    ("read: accepted", 9, records::read_accepted),
-    ("read: headers", 10, records::read_headers),
-    ("read: trailers", 11, records::read_trailers),
-    ("read: unsound words", 12, records::read_unsound),
-    ("read: cut", 13, records::read_cut),
-    ("read: order of refusals", 14, records::read_order),
-    ("read: mutations", 15, records::read_mutations),
-    ("write: lengths", 16, records::write_lengths),
-    ("write: unsound words", 17, records::write_unsound),
-    ("write: order of refusals", 18, records::write_order),
-    ("write: random", 19, records::write_random),
-    ("round trips", 20, records::round_trips),
-    ("hashes: known windows", 21, hashes::known),
-    ("hashes: sizes", 22, hashes::sizes),
-    ("hashes: uniform sequences", 23, hashes::uniform),
-    ("hashes: unsound words", 24, hashes::unsound),
-    ("hashes: order of refusals", 25, hashes::order),
-    ("hashes: random", 26, hashes::random),
-    ("plain: known pairs", 27, comparisons::known),
-    ("plain: exact minimum", 28, mistakes::exact_minimum),
-    ("plain: remainders", 29, mistakes::remainders),
-    ("plain: ties", 30, mistakes::ties),
-    ("plain: early ends", 31, mistakes::early_ends),
-    ("plain: covered in full", 32, mistakes::in_full),
-    ("plain: every small pair", 33, comparisons::small),
-    ("plain: random pairs", 34, comparisons::random),
-    ("plain: larger pairs", 35, comparisons::larger),
-    ("plain: what buffers held", 36, comparisons::held),
-    ("plain: sizes", 37, limits::sizes),
-    ("plain: full tile buffers", 38, limits::full),
-    ("plain: unsound words", 39, limits::unsound),
-    ("plain: order of refusals", 40, limits::order),
-    ("plain: laws", 41, laws::laws),
+    ("reference: worked example", 3, known::example),
+    ("match: boundary words", 4, words::match_boundaries),
+    ("match: every code", 5, words::match_codes),
+    ("match: random pairs", 6, words::match_random),
+    ("sound: single words", 7, words::sound_words),
+    ("sound: sequences", 8, words::sound_sequences),
+    ("record: worked example", 9, records::worked),
+    ("read: accepted", 10, records::read_accepted),
+    ("read: headers", 11, records::read_headers),
+    ("read: trailers", 12, records::read_trailers),
+    ("read: unsound words", 13, records::read_unsound),
+    ("read: cut", 14, records::read_cut),
+    ("read: order of refusals", 15, records::read_order),
+    ("read: mutations", 16, records::read_mutations),
+    ("write: lengths", 17, records::write_lengths),
+    ("write: unsound words", 18, records::write_unsound),
+    ("write: order of refusals", 19, records::write_order),
+    ("write: random", 20, records::write_random),
+    ("round trips", 21, records::round_trips),
+    ("hashes: known windows", 22, hashes::known),
+    ("hashes: sizes", 23, hashes::sizes),
+    ("hashes: uniform sequences", 24, hashes::uniform),
+    ("hashes: unsound words", 25, hashes::unsound),
+    ("hashes: order of refusals", 26, hashes::order),
+    ("hashes: random", 27, hashes::random),
+    ("compare: known pairs", 28, comparisons::known),
+    ("compare: exact minimum", 29, mistakes::exact_minimum),
+    ("compare: remainders", 30, mistakes::remainders),
+    ("compare: ties", 31, mistakes::ties),
+    ("compare: early ends", 32, mistakes::early_ends),
+    ("compare: covered in full", 33, mistakes::in_full),
+    ("compare: every small pair", 34, comparisons::small),
+    ("compare: random pairs", 35, comparisons::random),
+    ("compare: larger pairs", 36, comparisons::larger),
+    ("compare: what buffers held", 37, comparisons::held),
+    ("compare: sizes", 38, limits::sizes),
+    ("compare: full tile buffers", 39, limits::full),
+    ("compare: unsound words", 40, limits::unsound),
+    ("compare: order of refusals", 41, limits::order),
+    ("compare: laws", 42, laws::laws),
+    ("settings: each with each", 43, settings::each),
+    ("settings: equal hashes", 44, mistakes::equal_hashes),
+    ("settings: windows alike", 45, settings::windows_alike),
+    ("settings: periodic sequences", 46, settings::periodic_sequences),
+    ("settings: both engines", 47, settings::both_engines),
+    ("restart: every length", 48, restarts::every_length),
+    ("restart: a shorter block first", 49, restarts::shorter_first),
+    ("restart: again and again", 50, restarts::in_a_row),
+    ("program: known pairs", 51, program::known),
+    ("program: random pairs", 52, program::random),
+    ("program: larger pairs", 53, program::larger),
+    ("program: minimums", 54, program::minimums),
+    ("program: cut", 55, program::cut),
+    ("program: damaged", 56, program::damaged),
+    ("program: counts", 57, program::counts),
+    ("program: what follows", 58, program::what_follows),
+    ("program: in pieces", 59, program::in_pieces),
 ];
 
 fn main() -> ExitCode {
-    let mut good = true;
-    for (name, seed, cases) in GROUPS {
-        let mut group = Group::new(name, seed);
-        cases(&mut group);
-        good &= group.finish();
-    }
+    // No group depends on another. They run side by side and are printed in order.
+    let good = thread::scope(|scope| {
+        let running = GROUPS.map(|(name, seed, cases)| {
+            scope.spawn(move || {
+                let mut group = Group::new(name, seed);
+                cases(&mut group);
+                group.finish()
+            })
+        });
+        running.into_iter().fold(true, |good, group| {
+            let (lines, passed) = group.join().expect("a group ends");
+            print!("{lines}");
+            good && passed
+        })
+    });
     if good {
         ExitCode::SUCCESS
     } else {

@@ -1,6 +1,7 @@
 //! Laws of the tiling, tested on the core's own answers; the reference's tiling has no part in it.
 
-use super::{both_orders, listed, Sides};
+use super::{both_orders, engines, listed, Sides};
+use crate::engine::Engine;
 use crate::group::Group;
 use crate::pairs::{any_pair, periodic, related, unrelated, Pair};
 use crate::reference::{covered, matches, score, Tile, MAX_WORDS};
@@ -57,12 +58,21 @@ fn shared_calls([first, second]: Sides) -> usize {
     both.sum()
 }
 
-/// Tries every law on a pair.
+/// Tries every law on a pair, with each engine's answer; the next one has the exchanged sides.
 fn hold(g: &mut Group, name: &str, pair: Sides, minimum: u32) {
+    let engines = engines(&mut g.random, pair, minimum);
+    for (at, &engine) in engines.iter().enumerate() {
+        let other = engines[(at + 1) % engines.len()];
+        hold_by(g, name, [engine, other], pair, minimum);
+    }
+}
+
+/// Tries every law on the answer of the first engine; the other one has the exchanged sides.
+fn hold_by(g: &mut Group, name: &str, [engine, other]: [Engine; 2], pair: Sides, minimum: u32) {
     let [first, second] = pair;
     let (n, m) = (first.len(), second.len());
-    let name = format_args!("{name}, {n} and {m} words, minimum {minimum}").to_string();
-    let (answer, tiles) = listed(pair, minimum);
+    let name = format!("{engine}: {name}, {n} and {m} words, minimum {minimum}");
+    let (answer, tiles) = listed(engine, pair, minimum);
     let sum = covered(&tiles);
     g.equal(
         format_args!("{name}: refusal, tiles, covered and score are those of the tiles listed"),
@@ -99,14 +109,14 @@ fn hold(g: &mut Group, name: &str, pair: Sides, minimum: u32) {
         );
     }
     if n != m {
-        let (exchanged, crossed) = listed([second, first], minimum);
+        let (exchanged, crossed) = listed(other, [second, first], minimum);
         let back = crossed.iter().map(|tile| Tile {
             first: tile.second,
             second: tile.first,
             length: tile.length,
         });
         g.equal(
-            format_args!("{name}: exchanging the sides exchanges the starts and nothing else"),
+            format_args!("{name}: exchanging the sides exchanges the starts alone, by {other}"),
             (exchanged, back.collect()),
             (answer, tiles),
         );

@@ -1,11 +1,13 @@
 //! Limits and refusals of a comparison: lengths, minimums, sizes of buffers, unsound words, and
 //! causes in combination.
 
-use super::{compare, compare_in, expect, needed, Sides};
+use super::{compare, expect, Problem, Sides};
+use crate::engine::Engine;
 use crate::group::Group;
 use crate::pairs::distinct;
 use crate::reference::{
-    Tile, MAX_MINIMUM, MAX_WORDS, MINIMUM, TILES, TOO_LONG, UNSOUND, WORKSPACE,
+    Tile, BUCKETS, MAX_BUCKETS, MAX_MINIMUM, MAX_WORDS, MINIMUM, TILES, TOO_LONG, UNSOUND, WINDOW,
+    WORKSPACE,
 };
 use crate::samples::{
     damages, due, fault_sets, faulty, rooms, sequence, unsound_word, with, NO_CALL,
@@ -30,8 +32,8 @@ pub fn sizes(g: &mut Group) {
         for m in lengths {
             let pair = [&distinct(0, n)[..], &distinct(0, m)];
             for minimum in minimums {
-                // A minimum that is refused leaves open how many tiles there is to be room for.
-                let [workspace, tiles] = needed(pair, minimum.clamp(1, MAX_MINIMUM));
+                let problem = Problem::new(pair, minimum);
+                let [workspace, tiles] = problem.needed();
                 let mut sizes: Vec<[usize; 2]> = Vec::new();
                 sizes.extend(rooms(workspace).into_iter().map(|room| [room, tiles]));
                 sizes.extend(rooms(tiles).into_iter().map(|room| [workspace, room]));
@@ -46,8 +48,9 @@ pub fn sizes(g: &mut Group) {
                     let case = format_args!(
                         "{n} and {m} words, minimum {minimum}, workspace {room}, tiles {tile_room}"
                     );
-                    let rooms = [room, tile_room];
-                    compare_in(g, case, pair, minimum, rooms, Some(refusal));
+                    for engine in problem.engines(&mut g.random) {
+                        problem.compare_in(g, case, engine, [room, tile_room], refusal);
+                    }
                 }
             }
         }
@@ -94,8 +97,10 @@ pub fn full(g: &mut Group) {
 /// One unsound word at each position of either side.
 pub fn unsound(g: &mut Group) {
     let refused = |g: &mut Group, case: Arguments, pair: Sides| {
-        let rooms = needed(pair, 1);
-        compare_in(g, case, pair, 1, rooms, Some(UNSOUND));
+        let problem = Problem::new(pair, 1);
+        for engine in problem.engines(&mut g.random) {
+            problem.compare_by(g, case, engine, UNSOUND);
+        }
     };
     for count in [1, 2, 20, MAX_WORDS] {
         let sound = sequence(&mut g.random, count);
@@ -125,13 +130,16 @@ pub fn unsound(g: &mut Group) {
     compare(g, format_args!("a sound pair"), [&sound, &sound], 1);
 }
 
-/// Every set of causes at once: too long, unsound, minimum, workspace, tile buffer; the first two on
-/// the first side, the second or both.
+/// Every set of causes at once: too long, unsound, minimum, bucket count, first search length,
+/// workspace, tile buffer; the first two on the first side, the second or both. The plain engine has
+/// no bucket count and no search length.
 pub fn order(g: &mut Group) {
-    let numbers = [TOO_LONG, UNSOUND, MINIMUM, WORKSPACE, TILES];
+    let numbers = [
+        TOO_LONG, UNSOUND, MINIMUM, BUCKETS, WINDOW, WORKSPACE, TILES,
+    ];
     let sides = [[true, false], [false, true], [true, true]];
     for (faults, refusal) in fault_sets(numbers) {
-        let [long, unsound, bad_minimum, no_workspace, no_tiles] = faults;
+        let [long, unsound, bad_minimum, bad_buckets, bad_start, no_workspace, no_tiles] = faults;
         for length in [2, 3, 20, 60].repeat(20) {
             let random = &mut g.random;
             let (of_long, of_unsound) = (random.pick(&sides), random.pick(&sides));
@@ -145,8 +153,8 @@ pub fn order(g: &mut Group) {
             let right = 1 + random.below(2) as u32;
             let wrong = random.pick(&[0, MAX_MINIMUM + 1, MAX_MINIMUM + 2, 1 << 31, u32::MAX]);
             let minimum = if bad_minimum { wrong } else { right };
+            let asked = Problem::new(pair, right).needed();
             let short = [no_workspace, no_tiles];
-            let asked = needed(pair, right);
             let rooms = [0, 1].map(|i| {
                 if short[i] {
                     random.pick(&[0, asked[i] / 2, asked[i] - 1])
@@ -154,13 +162,29 @@ pub fn order(g: &mut Group) {
                     asked[i] + random.below(3)
                 }
             });
+            let mut engine = Engine::any_fast(random, minimum, length);
+            if let Engine::Fast(settings) = &mut engine {
+                if bad_buckets {
+                    settings.buckets =
+                        random.pick(&[0, MAX_BUCKETS + 1, MAX_BUCKETS + 2, 1 << 16, u32::MAX]);
+                }
+                if bad_start {
+                    let long = MAX_WORDS as u32 + 1;
+                    let below = minimum.wrapping_sub(1);
+                    settings.start = random.pick(&[0, below, long, long + 1, 1 << 16, u32::MAX]);
+                }
+            }
             let case = format_args!(
                 "{} and {} words, long {long} {of_long:?}, unsound {unsound} {of_unsound:?}, \
                  minimum {minimum}, asked {asked:?}, rooms {rooms:?}",
                 first.len(),
                 second.len(),
             );
-            compare_in(g, case, pair, minimum, rooms, Some(refusal));
+            let problem = Problem::new(pair, minimum);
+            problem.compare_in(g, case, engine, rooms, refusal);
+            if !bad_buckets && !bad_start {
+                problem.compare_in(g, case, Engine::Plain, rooms, refusal);
+            }
         }
     }
 }

@@ -1,12 +1,13 @@
-//! 01's "Where earlier builds went astray", a group for each mistake that a plain engine can make.
-//! The pairs are built so that their tiles are known beforehand, apart from any tiling.
+//! 01's "Where earlier builds went astray", a group for each mistake. Most pairs are built so that
+//! their tiles are known beforehand, apart from any tiling.
 
-use super::{compare, expect, listed, Sides};
+use super::{compare, expect, listed, Problem, Sides};
+use crate::engine::{Engine, BUCKETS};
 use crate::group::Group;
 use crate::known::Letters;
-use crate::pairs::{calls, distinct, Pair};
+use crate::pairs::{calls, distinct, shuffled, Pair};
 use crate::random::Random;
-use crate::reference::{Tile, MAX_WORDS};
+use crate::reference::{window_hashes, Tile, MAX_WORDS};
 use crate::samples::{call, NO_CALL};
 
 /// Words of the pattern and the text, and their tiles as p, t and length in the order laid.
@@ -155,15 +156,6 @@ pub fn remainders(g: &mut Group) {
     }
 }
 
-/// 0 to `n - 1` in any order.
-fn shuffled(random: &mut Random, n: usize) -> Vec<usize> {
-    let mut order: Vec<usize> = (0..n).collect();
-    for i in (1..n).rev() {
-        order.swap(i, random.below(i + 1));
-    }
-    order
-}
-
 /// "Ordering ties by first strand when the second is the pattern": blocks of one length in another
 /// order, copies of one block, and sequences of one code.
 pub fn ties(g: &mut Group) {
@@ -252,9 +244,67 @@ pub fn in_full(g: &mut Group) {
         let order = shuffled(random, length);
         let pair: Pair = [order.iter().map(|&i| first[i]).collect(), first];
         let pair: Sides = [&pair[0], &pair[1]];
-        let (answer, _) = listed(pair, 1);
-        let case = format_args!("pair {number}: {}", Letters(pair[0]));
-        g.equal(case, (answer.covered, answer.score), (length as u32, 1_000));
-        compare(g, case, pair, 1);
+        let problem = Problem::new(pair, 1);
+        for engine in problem.engines(&mut g.random) {
+            let (answer, _) = listed(engine, pair, 1);
+            let case = format_args!("{engine}: pair {number}: {}", Letters(pair[0]));
+            g.equal(case, (answer.covered, answer.score), (length as u32, 1_000));
+            problem.compare_by(g, format_args!("pair {number}"), engine, 0);
+        }
+    }
+}
+
+/// Other words with the same hash: of two neighbours the first is less by d and the second more by
+/// d times the multiplier.
+fn twin(random: &mut Random, words: &[u32], multiplier: u32) -> Vec<u32> {
+    let at = random.below(words.len() - 1);
+    let mut less = 1 + random.below(3) as u32;
+    if multiplier == 1 << 31 {
+        less *= 2;
+    }
+    let more = less.wrapping_mul(multiplier);
+    let mut twin = words.to_vec();
+    twin[at] = twin[at].wrapping_sub(less);
+    twin[at + 1] = twin[at + 1].wrapping_add(more);
+    twin
+}
+
+/// "Trusting equal hashes": windows of different words that hash alike, in front of the equal ones,
+/// behind them and instead of them.
+pub fn equal_hashes(g: &mut Group) {
+    for number in 0..4_000 {
+        let random = &mut g.random;
+        let any = random.below(10_000) as u32;
+        let multiplier = random.pick(&[0, 1, 2, 257, 1 << 31, u32::MAX, u32::MAX - 1, any]);
+        let longest = random.pick(&[4, 12, 40]);
+        let length = 2 + random.below(longest - 1);
+        let window: Vec<u32> = (0..length)
+            .map(|_| call(31_000 + random.below(1_000) as u16))
+            .collect();
+        let twins = [(); 3].map(|()| twin(random, &window, multiplier));
+        let hash = |words: &[u32]| window_hashes(words, multiplier, length)[0];
+        let case = format_args!("window {number} and its twins, multiplier {multiplier}");
+        g.equal(case, twins.each_ref().map(|t| hash(t)), [hash(&window); 3]);
+        let gap = &[NO_CALL][..];
+        let [a, b, c] = twins.each_ref().map(|twin| &twin[..]);
+        let pairs: [Pair; 5] = [
+            [window.clone(), a.to_vec()],
+            [window.clone(), [a, gap, &window].concat()],
+            [window.clone(), [&window, gap, a].concat()],
+            [window.clone(), [a, b, &window, c].concat()],
+            [[a, &window].concat(), [b, c, gap, &window, a].concat()],
+        ];
+        for pair in &pairs {
+            let random = &mut g.random;
+            let minimum = random.pick(&[1, 2, length as u32, 1 + length as u32 / 2]);
+            let buckets = random.pick(&BUCKETS);
+            let start = (length as u32).max(minimum);
+            let [first, second] = pair;
+            let problem = Problem::new([first, second], minimum);
+            for engine in [Engine::Plain, Engine::fast(multiplier, buckets, start)] {
+                let case = format_args!("window {number} of {length} words, minimum {minimum}");
+                problem.compare_by(g, case, engine, 0);
+            }
+        }
     }
 }
