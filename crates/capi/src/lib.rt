@@ -11,6 +11,7 @@ ghost use Rattle.record.specs.Reading.{readAnswer, readBuffer};
 ghost use Rattle.record.specs.Writing.{writeAnswer, writeBuffer};
 ghost use Rattle.window.specs.HashList.{hashAnswer, hashBuffer};
 ghost use Rattle.plain.specs.Promise.{Plain};
+ghost use Rattle.search.specs.Promise.{Fast};
 
 // Whether two words match: both are calls with equal codes.
 #[no_mangle]
@@ -73,4 +74,30 @@ pub extern "C" fn sigxume_compare_plain(
     ensures { λ r. ⌜ Plain (now (first .entry)) (now (second .entry)) minimum (now (workspace .entry)) (now (tiles .entry)) r (now (workspace .exit)) (now (tiles .exit)) ⌝ }
 {
     plain::compare(first, second, minimum, workspace, tiles)
+}
+
+// The same by Running Karp-Rabin, for any multiplier, bucket count and first search length. Refused: 1 to 7.
+#[no_mangle]
+pub extern "C" fn sigxume_compare_fast(
+    first: &[u32],
+    second: &[u32],
+    minimum: u32,
+    multiplier: u32,
+    buckets: u32,
+    start: u32,
+    workspace: &mut [u32],
+    tiles: &mut [u32],
+) -> Compared
+    ensures { λ r. ⌜ Fast (now (first .entry)) (now (second .entry)) minimum buckets start (now (workspace .entry)) (now (tiles .entry)) r (now (workspace .exit)) (now (tiles .exit)) ⌝ }
+{
+    search::compare(
+        first,
+        second,
+        minimum,
+        multiplier,
+        buckets,
+        start,
+        workspace,
+        tiles,
+    )
 }
