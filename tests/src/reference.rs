@@ -311,7 +311,7 @@ fn check(
 /// What an accepted comparison of two sequences of these lengths answers and leaves behind, for the
 /// tiles in the order laid: "the whole lent workspace is zero", and "words beyond the last tile keep
 /// their values".
-fn accept(
+pub fn accept(
     laid: &[Tile],
     [first, second]: [usize; 2],
     workspace: &mut [u32],

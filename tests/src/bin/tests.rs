@@ -4,7 +4,7 @@
 
 use sigxume_tests::comparisons::{self, laws, limits, mistakes, restarts, settings};
 use sigxume_tests::group::Group;
-use sigxume_tests::{hashes, known, program, records, words};
+use sigxume_tests::{baselines, hashes, known, program, records, words};
 use std::process::ExitCode;
 use std::thread;
 
@@ -12,10 +12,11 @@ use std::thread;
 type Row = (&'static str, u64, fn(&mut Group));
 
 #[rustfmt::skip]
-const GROUPS: [Row; 59] = [
+const GROUPS: [Row; 60] = [
     ("reference: known pairs", 1, known::pairs),
     ("reference: known windows", 2, known::windows),
     ("reference: worked example", 3, known::example),
+    ("reference: port of Wise's program", 60, baselines::wise_random),
     ("match: boundary words", 4, words::match_boundaries),
     ("match: every code", 5, words::match_codes),
     ("match: random pairs", 6, words::match_random),
