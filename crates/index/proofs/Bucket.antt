@@ -1,6 +1,6 @@
 -- Buckets and the entries of the filter are remainders, so they lie within their arrays.
 -- Assumes nothing.
-use Prim.Native.Nat.{ℕ, _/_, _%_, _^_, _≤_, _<_}
+use Prim.Native.Nat.{ℕ, _*_, _/_, _%_, _^_, _≤_, _<_}
 use native.Mathlib.Nat.{mod-lt}
 use native.Mathlib.Omega.{arith}
 use mathlib.Core.Path.{_≡_, refl, _∙_}
@@ -20,12 +20,12 @@ bucket-small k h a b = omega (arith, mod-lt h a)
 pub bucket-fits : (k h : ℕ) → 1 ≤ k → k ≤ 1024 → h % k < 2 ^ 64
 bucket-fits k h a b = omega (arith, mod-lt h a)
 
-pub slot-is : (h : ℕ) → h / 65536 % 16384 ≡ slot h
+pub slot-is : (h : ℕ) → h * 2654435769 % 2 ^ 32 / 2 ^ 18 ≡ slot h
 unfolding slot
 slot-is h = refl
 
-pub slot-small : (h : ℕ) → h / 65536 % 16384 < 16384
-slot-small h = mod-lt (h / 65536) (omega arith)
+pub slot-small : (h : ℕ) → h * 2654435769 % 2 ^ 32 / 2 ^ 18 < 16384
+slot-small h = omega arith
 
 pub known-at : (seen : List Bool) (i h : ℕ) → i ≡ slot h → getD seen i false ≡ getD seen (slot h) false
 known-at seen i h e = rw e refl

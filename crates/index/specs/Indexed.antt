@@ -1,5 +1,5 @@
 -- The index of a pass, as the search reads it. No reader of the engines' contracts needs it.
-use Prim.Native.Nat.{ℕ, _+_, _/_, _%_, _≤_, _<_}
+use Prim.Native.Nat.{ℕ, _+_, _*_, _/_, _%_, _^_, _≤_, _<_}
 use mathlib.Core.Path.{_≡_}
 use mathlib.Core.Bool.{Bool, true, false}
 use mathlib.Core.List.{List}
@@ -19,9 +19,9 @@ textHash j ws t = getD ws (j .n + j .m + j .n + t) 0
 abbrev pub link : Job → List ℕ → ℕ → ℕ
 link j ws t = getD ws (boundsFrom j + j .n + t) 0
 
--- Which entry of the filter a hash has: bits that the bucket does not use.
+-- Which entry of the filter a hash has: the leading bits of its product with an odd number, to which all bits of the hash contribute.
 unfoldable pub slot : ℕ → ℕ
-slot h = h / 65536 % 16384
+slot h = h * 2654435769 % 2 ^ 32 / 2 ^ 18
 
 -- Heads and links of a pass at search length s with k buckets. Where a run of s words or more begins, the two windows have the same hash,
 -- and walking from the head of its bucket never steps over that position of the text. Past the last position stands a number that is not

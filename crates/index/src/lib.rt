@@ -30,7 +30,7 @@ pub fn bucket_of(h: u32, buckets: u32) -> usize
 pub fn slot_of(h: u32) -> usize
     ensures { λ r. ⌜ (r ≡ slot h) × (r < 16384) ⌝ }
 {
-    (h / 0x1_0000 % 16384) as usize
+    ((h as u64) * 2654435769 % 0x1_0000_0000 / 0x4_0000) as usize
 }
 
 // The hash of the pattern's window at a position.

@@ -154,9 +154,10 @@ filling-all j s k heads seen ws₀ ws p last i z =
 
 -- ---- the longest
 -- What a search found beyond its floor is a run, so it fits.
-pub found-small : (j : Job) (ws : List ℕ) (p floor cap : ℕ) (f : Found) → Space j ws → Reached (drop p (state j ws .pattern)) (state j ws .text) floor cap f → floor < f .len → f .len ≤ 2048
-found-small j ws p floor cap f s r l =
-    omega (arith, r .long l, run-within (drop p (state j ws .pattern)) (drop (f .t .0) (state j ws .text)), length-drop p (state j ws .pattern), pattern-length j ws s, s .short-pattern)
+pub found-small : (j : Job) (ws : List ℕ) (p s cap : ℕ) (f : Found) → Space j ws → Reached (drop p (state j ws .pattern)) (state j ws .text) (2 * s - 1) cap f → 2 * s < f .len → f .len ≤ 2048
+found-small j ws p s cap f space r h =
+    let l : 2 * s - 1 < f .len = omega arith in
+    omega (arith, r .long l, run-within (drop p (state j ws .pattern)) (drop (f .t .0) (state j ws .text)), length-drop p (state j ws .pattern), pattern-length j ws space, space .short-pattern)
 
 pub measured-far : (j : Job) (s k : ℕ) (heads : List ℕ) (seen : List Bool) (ws : List ℕ) (r : ℕ) → Indexed j s k ws heads seen → r ≤ 2048 → 2 * s < r → Measured j s k heads seen ws ws r
 measured-far j s k heads seen ws r x h l =

@@ -191,7 +191,8 @@ pub fn fill_bounds(
     sweep::greatest_bound(ws, job)
 }
 
-// The length of a run of more than 2 s words, where one is met in every s-th row; else 0.
+// The length of a run of more than 2 s words, where one is met in every s-th row; else 0. It looks for 2 s words, since two
+// windows of s words cover just that many: the words are looked at only where both have the same hashes.
 fn probe(
     ws: &[u32],
     job: Job,
@@ -213,7 +214,7 @@ fn probe(
             heads,
             seen,
             PatternAt(p),
-            2 * s,
+            2 * s - 1,
             2 * s + 1,
         );
         if 2 * s < found.len {

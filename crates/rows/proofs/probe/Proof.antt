@@ -24,6 +24,9 @@ add-if1 c = search needs
 mul-row-search : tie.Need-mul-row-search Inv-loop μ-loop
 mul-row-search c = search needs
 
+sub-row-search : tie.Need-sub-row-search Inv-loop μ-loop
+sub-row-search c = search needs
+
 mul-row-search-2 : tie.Need-mul-row-search-2 Inv-loop μ-loop
 mul-row-search-2 c = search needs
 
@@ -61,6 +64,7 @@ probe-spec =
     mul-if1
     add-if1
     mul-row-search
+    sub-row-search
     mul-row-search-2
     add-row-search
     row-search-requires
