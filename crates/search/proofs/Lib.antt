@@ -1,3 +1,4 @@
 pub mod Passes
 pub mod Stretches
 pub mod Accepted
+pub mod Laws

@@ -1,0 +1,1 @@
+// Laws about both engines together; there is no code here.
