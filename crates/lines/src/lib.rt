@@ -60,7 +60,7 @@ fn spaced_number(out: &mut [u8], at: usize, n: u32) -> usize
 }
 
 // Writes numbers, each after a space.
-fn spaced_numbers(out: &mut [u8], at: usize, numbers: &[u32]) -> usize
+pub fn spaced_numbers(out: &mut [u8], at: usize, numbers: &[u32]) -> usize
     requires { ⌜ at + 11 * length (now numbers) ≤ length (now out) ⌝ }
     ensures { λ r. ⌜ Appended (11 * length (now (numbers .entry))) (spaced (now (numbers .entry))) at (now (out .entry)) r (now (out .exit)) ⌝ }
 {

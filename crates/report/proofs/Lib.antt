@@ -1,0 +1,4 @@
+pub mod Words
+pub mod Tiles
+pub mod Lines
+pub mod Known

@@ -1,0 +1,136 @@
+// The pair program's report: from the bytes of its input to the bytes of its output.
+use tiling::Compared;
+ghost use mathlib.Core.Path.{_≡_};
+ghost use mathlib.Core.List.{[], _∷_};
+ghost use Prim.Native.Nat.{_+_, _*_, _≤_, _<_, min, max};
+ghost use lib.ListN.{length, take};
+ghost use Rattle.buffer.specs.Buffer.{onto};
+ghost use Rattle.tiling.specs.Each.{Each};
+ghost use Rattle.tiling.specs.Demand.{tilesIn};
+ghost use Rattle.lines.specs.Text.{decimal, phrase};
+ghost use Rattle.lines.specs.Appended.{Appended};
+ghost use Rattle.report.specs.Words.{wordsOf, wordAt};
+ghost use Rattle.report.specs.Pair.{refusedLine, shiftEnd, tileLine, tileLines, opening, closing, pairLines, compared, fromSecond, fromFirst, fromWords, pairReport};
+ghost use Rattle.report.specs.Written.{Written, Starts, Laid};
+
+// A byte as a number of a word's width.
+fn wide(byte: u8) -> u32
+    ensures { λ r. ⌜ (r ≡ byte) × (r < 256) ⌝ }
+{
+    byte as u32
+}
+
+// The word of number i: four bytes, lowest first.
+fn word_at(bytes: &[u8], i: usize) -> u32
+    requires { ⌜ 4 * i + 3 < length (now bytes) ⌝ }
+    ensures { λ r. ⌜ r ≡ wordAt (now (bytes .entry)) i ⌝ }
+{
+    let at = 4 * i;
+    wide(bytes[at])
+        + 0x100 * wide(bytes[at + 1])
+        + 0x1_0000 * wide(bytes[at + 2])
+        + 0x100_0000 * wide(bytes[at + 3])
+}
+
+// Stores the words of bytes to the start of a buffer, as many as it holds, and answers how many.
+fn store_words(bytes: &[u8], words: &mut [u32]) -> usize
+    ensures { λ r. ⌜ r ≡ length (take (length (now (words .entry))) (wordsOf (now (bytes .entry)))) ⌝ }
+    ensures { λ r. ⌜ now (words .exit) ≡ onto (take (length (now (words .entry))) (wordsOf (now (bytes .entry)))) (now (words .entry)) ⌝ }
+{
+    let mut i = 0;
+    while i < words.len() && 4 * i + 3 < bytes.len() {
+        words[i] = word_at(bytes, i);
+        i += 1;
+    }
+    i
+}
+
+// Writes the line of a refusal.
+fn refused(out: &mut [u8], r: u32) -> usize
+    requires { ⌜ 92284 ≤ length (now out) ⌝ }
+    ensures { λ n. ⌜ Written (refusedLine r) (now (out .entry)) n (now (out .exit)) ⌝ }
+{
+    lines::line(out, 0, b"REFUSED", &[r])
+}
+
+// Writes the lines before the tiles.
+fn open(out: &mut [u8], a: u32, b: u32, minimum: u32, tiles: u32) -> usize
+    requires { ⌜ 63 ≤ length (now out) ⌝ }
+    ensures { λ r. ⌜ Appended 63 (opening a b minimum tiles) 0 (now (out .entry)) r (now (out .exit)) ⌝ }
+{
+    let ids = lines::line(out, 0, b"FISH", &[a, b]);
+    let least = lines::line(out, ids, b"MINIMUM", &[minimum]);
+    lines::line(out, least, b"TILES", &[tiles])
+}
+
+// Writes where a tile lies and its length.
+fn tile_place(out: &mut [u8], at: usize, first: u32, second: u32, len: u32) -> usize
+    requires { ⌜ at + 32 ≤ length (now out) ⌝ }
+    ensures { λ r. ⌜ Appended 32 (phrase (decimal first) (second ∷ len ∷ [])) at (now (out .entry)) r (now (out .exit)) ⌝ }
+{
+    let start = lines::number(out, at, first);
+    lines::spaced_numbers(out, start, &[second, len])
+}
+
+// Writes a tile's shift and ends its line.
+fn tile_shift(out: &mut [u8], at: usize, shift: i32) -> usize
+    requires { ⌜ at + 13 ≤ length (now out) ⌝ }
+    ensures { λ r. ⌜ Appended 13 (shiftEnd shift) at (now (out .entry)) r (now (out .exit)) ⌝ }
+{
+    let space = lines::append(out, at, b" ");
+    let end = lines::signed_number(out, space, shift);
+    lines::append(out, end, b"\n")
+}
+
+// Writes the line of a tile.
+fn tile_line(out: &mut [u8], at: usize, first: u32, second: u32, len: u32) -> usize
+    requires { ⌜ (at + 45 ≤ length (now out)) × (first < 2048) × (second < 2048) ⌝ }
+    ensures { λ r. ⌜ Appended 45 (tileLine (record { first = first; second = second; len = len })) at (now (out .entry)) r (now (out .exit)) ⌝ }
+{
+    let place = tile_place(out, at, first, second, len);
+    tile_shift(out, place, tile::shift(first, second))
+}
+
+// Writes the lines of the first count tiles of a tile buffer.
+fn tile_lines(out: &mut [u8], at: usize, tiles: &[u32], count: usize) -> usize
+    requires { ⌜ (at + 45 * count ≤ length (now out)) × (3 * count ≤ length (now tiles)) × Each Starts (tilesIn count (now tiles)) ⌝ }
+    ensures { λ r. ⌜ Appended (45 * count) (tileLines (tilesIn count (now (tiles .entry)))) at (now (out .entry)) r (now (out .exit)) ⌝ }
+{
+    let mut end = at;
+    let mut i = 0;
+    while i < count {
+        end = tile_line(out, end, tiles[3 * i], tiles[3 * i + 1], tiles[3 * i + 2]);
+        i += 1;
+    }
+    end
+}
+
+// Writes the lines after the tiles.
+fn close(out: &mut [u8], at: usize, sum: u32, n: u32, m: u32, points: u32) -> usize
+    requires { ⌜ at + 61 ≤ length (now out) ⌝ }
+    ensures { λ r. ⌜ Appended 61 (closing sum n m points) at (now (out .entry)) r (now (out .exit)) ⌝ }
+{
+    let begun = lines::phrase(out, at, b"COVERED", &[sum]);
+    let of = lines::line(out, begun, b" OF", &[n, m]);
+    lines::line(out, of, b"SCORE", &[points])
+}
+
+// Writes the report of an accepted comparison, whose tiles are in the tile buffer.
+fn pair_lines(
+    out: &mut [u8],
+    a: u32,
+    b: u32,
+    minimum: u32,
+    n: u32,
+    m: u32,
+    answer: Compared,
+    tiles: &[u32],
+) -> usize
+    requires { ⌜ 92284 ≤ length (now out) ⌝ }
+    requires { ⌜ Laid n m answer (now tiles) ⌝ }
+    ensures { λ r. ⌜ Written (pairLines a b minimum n m (tilesIn (answer .tiles) (now (tiles .entry)))) (now (out .entry)) r (now (out .exit)) ⌝ }
+{
+    let opened = open(out, a, b, minimum, answer.tiles);
+    let listed = tile_lines(out, opened, tiles, answer.tiles as usize);
+    close(out, listed, answer.covered, n, m, answer.score)
+}
