@@ -5,9 +5,10 @@ use mathlib.Core.List.{List}
 use lib.ListN.{length}
 use Rattle.buffer.specs.Buffer.{onto}
 use Rattle.tiling.specs.Each.{Each}
-use Rattle.tiling.specs.Listing.{Entry, covered, score}
+use Rattle.tiling.specs.Listing.{Entry, listing, covered, score}
 use Rattle.tiling.specs.Demand.{tilesIn}
 use Rattle.tiling.specs.declared.Compared.{Compared}
+use Rattle.report.specs.Pair.{comparing}
 
 -- The bytes stand at the start of the buffer, r is their number, and what lies beyond is as it was.
 pub record Written (bytes b : List ℕ) (r : ℕ) (b' : List ℕ) : Type 0 where
@@ -27,3 +28,9 @@ pub record Laid (n m : ℕ) (a : Compared) (tiles : List ℕ) : Type 0 where
   pub starts : Each Starts (tilesIn (a .tiles) tiles)
   pub covered : a .covered ≡ covered (tilesIn (a .tiles) tiles)
   pub score : a .score ≡ score (a .covered) (n + m)
+
+-- What the search gives for two sequences: why they are not compared, or their tiles.
+pub record Searched (first second : List ℕ) (minimum : ℕ) (a : Compared) (tiles : List ℕ) : Type 0 where
+  pub refusal : a .refusal ≡ comparing first second minimum
+  pub laid : a .refusal ≡ 0 → Laid (length first) (length second) a tiles
+  pub listed : a .refusal ≡ 0 → tilesIn (a .tiles) tiles ≡ listing first second minimum

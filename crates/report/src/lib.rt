@@ -11,7 +11,7 @@ ghost use Rattle.lines.specs.Text.{decimal, phrase};
 ghost use Rattle.lines.specs.Appended.{Appended};
 ghost use Rattle.report.specs.Words.{wordsOf, wordAt};
 ghost use Rattle.report.specs.Pair.{refusedLine, shiftEnd, tileLine, tileLines, opening, closing, pairLines, compared, fromSecond, fromFirst, fromWords, pairReport};
-ghost use Rattle.report.specs.Written.{Written, Starts, Laid};
+ghost use Rattle.report.specs.Written.{Written, Starts, Laid, Searched};
 
 // A byte as a number of a word's width.
 fn wide(byte: u8) -> u32
@@ -133,4 +133,104 @@ fn pair_lines(
     let opened = open(out, a, b, minimum, answer.tiles);
     let listed = tile_lines(out, opened, tiles, answer.tiles as usize);
     close(out, listed, answer.covered, n, m, answer.score)
+}
+
+// The first search length: 20, or the minimum if larger.
+fn search_length(minimum: u32) -> u32
+    ensures { λ r. ⌜ r ≡ max 20 minimum ⌝ }
+{
+    if 20 < minimum {
+        return minimum;
+    }
+    20
+}
+
+// Compares two sequences by the search, with the program's settings. The tiles go to the start of the tile buffer.
+fn search_pair(first: &[u32], second: &[u32], minimum: u32, tiles: &mut [u32]) -> Compared
+    requires { ⌜ (length (now first) ≤ 2048) × (length (now second) ≤ 2048) × (length (now tiles) ≡ 6144) ⌝ }
+    ensures { λ r. ⌜ Searched (now (first .entry)) (now (second .entry)) minimum r (now (tiles .exit)) ⌝ }
+{
+    let mut workspace = [0u32; 16384];
+    let start = search_length(minimum);
+    search::compare(
+        first,
+        second,
+        minimum,
+        257,
+        256,
+        start,
+        &mut workspace,
+        tiles,
+    )
+}
+
+// Compares two sequences and writes the report.
+fn compare(out: &mut [u8], a: u32, b: u32, minimum: u32, first: &[u32], second: &[u32]) -> usize
+    requires { ⌜ (92284 ≤ length (now out)) × (length (now first) ≤ 2048) × (length (now second) ≤ 2048) ⌝ }
+    ensures { λ r. ⌜ Written (compared a b minimum (now (first .entry)) (now (second .entry))) (now (out .entry)) r (now (out .exit)) ⌝ }
+{
+    let mut tiles = [0u32; 6144];
+    let answer = search_pair(first, second, minimum, &mut tiles);
+    if answer.refusal != 0 {
+        return refused(out, answer.refusal);
+    }
+    pair_lines(
+        out,
+        a,
+        b,
+        minimum,
+        first.len() as u32,
+        second.len() as u32,
+        answer,
+        &tiles,
+    )
+}
+
+// Reads the second record and goes on to compare.
+fn from_second(out: &mut [u8], a: u32, minimum: u32, first: &[u32], src: &[u32]) -> usize
+    requires { ⌜ (92284 ≤ length (now out)) × (length (now first) ≤ 2048) ⌝ }
+    ensures { λ r. ⌜ Written (fromSecond a minimum (now (first .entry)) (now (src .entry))) (now (out .entry)) r (now (out .exit)) ⌝ }
+{
+    let mut second = [0u32; 2048];
+    let got = record::read(src, &mut second);
+    if got.refusal != 0 {
+        return refused(out, got.refusal);
+    }
+    let count = got.count as usize;
+    compare(out, a, got.id, minimum, first, &second[..count])
+}
+
+// Reads the first record and goes on to the second.
+fn from_first(out: &mut [u8], minimum: u32, src: &[u32]) -> usize
+    requires { ⌜ 92284 ≤ length (now out) ⌝ }
+    ensures { λ r. ⌜ Written (fromFirst minimum (now (src .entry))) (now (out .entry)) r (now (out .exit)) ⌝ }
+{
+    let mut first = [0u32; 2048];
+    let got = record::read(src, &mut first);
+    if got.refusal != 0 {
+        return refused(out, got.refusal);
+    }
+    let count = got.count as usize;
+    let used = got.used as usize;
+    from_second(out, got.id, minimum, &first[..count], &src[used..])
+}
+
+// Takes the minimum word and goes on to the records.
+fn from_words(out: &mut [u8], words: &[u32]) -> usize
+    requires { ⌜ 92284 ≤ length (now out) ⌝ }
+    ensures { λ r. ⌜ Written (fromWords (now (words .entry))) (now (out .entry)) r (now (out .exit)) ⌝ }
+{
+    if words.len() == 0 {
+        return refused(out, 8);
+    }
+    from_first(out, words[0], &words[1..])
+}
+
+// Writes the report of a pair program's input to the start of the output and answers its length. No input has a longer one.
+pub fn report(input: &[u8], output: &mut [u8; 92284]) -> usize
+    ensures { λ r. ⌜ Written (pairReport (now (input .entry))) (now (output .entry)) r (now (output .exit)) ⌝ }
+{
+    let mut words = [0u32; 4101];
+    let count = store_words(input, &mut words);
+    from_words(output, &words[..count])
 }
