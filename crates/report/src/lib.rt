@@ -4,6 +4,7 @@ ghost use mathlib.Core.Path.{_≡_};
 ghost use mathlib.Core.List.{[], _∷_};
 ghost use Prim.Native.Nat.{_+_, _*_, _≤_, _<_, min, max};
 ghost use lib.ListN.{length, take};
+ghost use Rattle.io.specs.Counts.{Counts};
 ghost use Rattle.buffer.specs.Buffer.{onto};
 ghost use Rattle.tiling.specs.Each.{Each};
 ghost use Rattle.tiling.specs.Demand.{tilesIn};
@@ -226,9 +227,13 @@ fn from_words(out: &mut [u8], words: &[u32]) -> usize
     from_first(out, words[0], &words[1..])
 }
 
-// Writes the report of a pair program's input to the start of the output and answers its length. No input has a longer one.
+// Writes the report of a pair program's input to the start of the output and answers how many bytes it has. Every input
+// has a report, and none is longer than the output: a line of a tile has at most 45 bytes, and the other lines together at
+// most 124. The third clause is what taking these bytes out of the output asks.
 pub fn report(input: &[u8], output: &mut [u8; 92284]) -> usize
-    ensures { λ r. ⌜ Written (pairReport (now (input .entry))) (now (output .entry)) r (now (output .exit)) ⌝ }
+    ensures { λ r. ⌜ r ≡ length (pairReport (now (input .entry))) ⌝ }
+    ensures { λ r. ⌜ now (output .exit) ≡ onto (pairReport (now (input .entry))) (now (output .entry)) ⌝ }
+    ensures { λ r. ⌜ Counts r (now (output .exit)) ⌝ }
 {
     let mut words = [0u32; 4101];
     let count = store_words(input, &mut words);

@@ -1,6 +1,6 @@
 -- `report::report` meets its contract: it stores as many words of the input as a report can need.
 -- Assumes nothing.
-use Rattle.report.proofs.Input.{stored-fit, stored-count, reported}
+use Rattle.report.proofs.Input.{stored-fit, stored-count, report-count, report-held, report-fits, report-counts}
 use borrow.Author.Needs.{needs}
 use Rattle.report.proofs.report.Statement.{statement}
 use Rattle.report.proofs.report.Tie as tie
@@ -21,7 +21,7 @@ from-words-requires : tie.Need-from-words-requires
 from-words-requires c κs = search needs
 
 returns : tie.Need-returns
-returns c = search reported
+returns c = (search report-count, (search report-held, (search report-fits, search report-counts)))
 
 pub report-spec : {M : Type 1} → statement M
 report-spec =
