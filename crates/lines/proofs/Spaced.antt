@@ -1,13 +1,13 @@
 -- Numbers after spaces, one after another, and what stands before and after them in a line.
 -- Assumes nothing.
-use Prim.Native.Nat.{ℕ, zero, suc, _+_, _*_, _≤_, _<_}
+use Prim.Native.Nat.{ℕ, _+_, _*_, _≤_, _<_}
 use native.Mathlib.Omega.{arith}
 use native.Mathlib.Numerals.{add-one}
-use mathlib.Core.Path.{_≡_, refl, sym, _∙_, ap}
+use mathlib.Core.Path.{_≡_, refl, _∙_}
 use mathlib.Core.List.{List, [], _∷_, _++_, append-assoc, append-nil}
 use lib.ListN.{length, take, getD}
 use lib.Seq.{take-suc, take-all}
-use Rattle.lines.specs.Text.{ascii, decimal, spaced, phrase, line}
+use Rattle.lines.specs.Text.{ascii, decimal, spaced}
 use Rattle.lines.specs.Appended.{Appended}
 use Rattle.lines.proofs.Appended.{both, nothing}
 

@@ -5,7 +5,7 @@ ghost use mathlib.Core.List.{[], _∷_};
 ghost use Prim.Native.Nat.{_+_, _*_, _≤_};
 ghost use lib.IntN.{natAbs};
 ghost use lib.ListN.{length};
-ghost use Rattle.lines.specs.Text.{ascii, decimal, signed, spaced, phrase, line};
+ghost use Rattle.lines.specs.Text.{decimal, signed, spaced, phrase, line};
 ghost use Rattle.lines.specs.Appended.{Appended};
 
 // Writes a text as it is.

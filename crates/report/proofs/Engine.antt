@@ -1,17 +1,16 @@
 -- What the engine answered for two sequences of at most 2,048 words: workspace and tile buffer suffice, so it is refused for the
 -- comparison's other causes alone, and an accepted one has laid tiles that lie in the sequences.
 -- Assumes nothing.
-use Prim.Native.Nat.{ℕ, zero, suc, _+_, _*_, _/_, _≤_, _<_, min, max}
+use Prim.Native.Nat.{ℕ, zero, suc, _+_, _*_, _/_, _≤_, min, max}
 use native.Mathlib.Nat.{div-le-self}
 use native.Mathlib.Omega.{arith}
 use mathlib.Core.Path.{_≡_, refl, sym, _∙_, ap}
-use mathlib.Core.List.{List, [], _∷_}
+use mathlib.Core.List.{List}
 use lib.ListN.{length}
 use borrow.Author.Tests.{le-ltb}
 use Rattle.symbol.proofs.Refusal.{outcome-refused, outcome-accepted}
 use Rattle.tiling.specs.Each.{Each, none, also}
-use Rattle.tiling.specs.Comparing.{fastRefusal, room}
-use Rattle.tiling.specs.Answer.{Compares}
+use Rattle.tiling.specs.Comparing.{fastRefusal}
 use Rattle.tiling.specs.Listing.{Entry, listing}
 use Rattle.tiling.specs.Demand.{Stands, tilesIn}
 use Rattle.tiling.specs.declared.Compared.{Compared}

@@ -1,15 +1,15 @@
 -- The report needs no more than the first 4,101 words: a minimum word and two records of at most 2,050 words. Reading a record looks at
 -- no word after its trailer, so what is cut off beyond that changes nothing.
 -- Assumes nothing.
-use Prim.Native.Nat.{ℕ, zero, suc, _+_, _*_, _-_, _≤_, _<_, min}
-use native.Mathlib.Nat.{not-suc-le-zero, le-of-suc-le-suc}
+use Prim.Native.Nat.{ℕ, zero, suc, _+_, _-_, _≤_, _<_}
+use native.Mathlib.Nat.{not-suc-le-zero}
 use native.Mathlib.Decide.{decLt}
 use native.Mathlib.Omega.{arith}
 use mathlib.Core.Path.{_≡_, refl, sym, _∙_, ap}
-use mathlib.Core.Bool.{Bool, true, false, not}
-use mathlib.Core.List.{List, [], _∷_, _++_}
+use mathlib.Core.Bool.{Bool, true, false}
+use mathlib.Core.List.{List, [], _∷_}
 use lib.Dec.{eqb, ltb}
-use lib.ListN.{length, getD, take, drop, length-take}
+use lib.ListN.{length, take, drop, length-take}
 use lib.Seq.{getD-take, take-take, take-nil, take-at, length-take-le}
 use borrow.Author.Tests.{ltb-false, lt-ltb, le-ltb, eq-eqb, ne-eqb}
 use Rattle.buffer.specs.Buffer.{onto}
@@ -20,6 +20,7 @@ use Rattle.record.proofs.Reading.{framed}
 use Rattle.report.specs.Words.{wordsOf}
 use Rattle.report.specs.Pair.{unless, reading, fromSecond, fromFirst, fromWords, pairReport}
 use Rattle.report.specs.Written.{Written}
+use Rattle.report.proofs.Words.{words-cut}
 
 -- ---- lists that are cut off
 drop-take : (n m : ℕ) (l : List ℕ) → drop n (take (n + m) l) ≡ take m (drop n l)
@@ -98,6 +99,11 @@ words-enough ws zero h = absurd (not-suc-le-zero h)
 words-enough [] (suc k) h = refl
 words-enough (minimum ∷ src) (suc k) h = first-same minimum src k (omega arith)
 
+-- In bytes: what the program reads of its input is enough.
+pub input-enough : (input : List ℕ) → pairReport (take 16404 input) ≡ pairReport input
+unfolding pairReport
+input-enough input = rw (words-cut 4101 input) (words-enough (wordsOf input) 4101 (omega arith))
+
 -- ---- what report writes: it stored the first words of the input
 module _ (input w w' : List ℕ) (n : ℕ) (room : length w ≡ 4101) (counted : n ≡ length (take (length w) (wordsOf input))) (stored : w' ≡ onto (take (length w) (wordsOf input)) w) where
   pub stored-fit : n ≤ length w'
@@ -129,3 +135,7 @@ module _ (input w w' : List ℕ) (n : ℕ) (room : length w ≡ 4101) (counted :
 
     pub report-counts : length o ≡ 92284 → r ≡ length (take r o')
     report-counts long = sym (length-take-le r o' (report-fits long))
+
+-- The bytes that the program hands to the write are the report.
+pub report-bytes : (input o : List ℕ) (r : ℕ) (o' : List ℕ) → r ≡ length (pairReport input) → o' ≡ onto (pairReport input) o → take r o' ≡ pairReport input
+report-bytes input o r o' e k = rw k (take-at (pairReport input) (drop (length (pairReport input)) o) r (sym e))

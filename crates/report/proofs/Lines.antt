@@ -3,10 +3,9 @@
 use Prim.Native.Nat.{ℕ, _+_, _*_, _≤_, _<_}
 use native.Mathlib.Nat.{lt-of-le-of-lt}
 use native.Mathlib.Omega.{arith}
-use mathlib.Core.Path.{_≡_, refl, sym, _∙_, ap}
-use mathlib.Core.List.{List, [], _∷_, _++_}
+use mathlib.Core.Path.{_≡_, _∙_, ap}
+use mathlib.Core.List.{List, [], _∷_}
 use lib.IntN.{ℤ, pos, _-ℤ_}
-use lib.ListN.{length}
 use mir.Syntax.{w32}
 use mir.Val.{SFits, ofZ, toZ}
 use mir.Facts.{toZ-ofZ}
@@ -55,13 +54,6 @@ tile-written first second len z at p r b₀ b₁ b₂ f s k x y =
     both x (rw read at y)
 
 -- ---- the whole report of an accepted comparison
-module _ (n m : ℕ) (a : Compared) (tiles : List ℕ) (l : Laid n m a tiles) (p : ℕ) (b₀ b₁ bytes : List ℕ) (room : 92284 ≤ length b₀) (x : Appended 63 bytes 0 b₀ p b₁) (same : length b₁ ≡ length b₀) where
-  pub tiles-room : p + 45 * a .tiles ≤ length b₁
-  tiles-room = omega (arith, x .next, x .few, l .few)
-
-  pub closing-room : (q : ℕ) (b₂ more : List ℕ) → Appended (45 * a .tiles) more p b₁ q b₂ → length b₂ ≡ length b₁ → q + 61 ≤ length b₂
-  closing-room q b₂ more y again = omega (arith, x .next, x .few, y .next, y .few, l .few)
-
 pub pair-written : (n m : ℕ) (a : Compared) (tiles : List ℕ) (i j minimum p q r : ℕ) (b₀ b₁ b₂ b₃ : List ℕ) → Laid n m a tiles → Appended 63 (opening i j minimum (a .tiles)) 0 b₀ p b₁ → Appended (45 * a .tiles) (tileLines (tilesIn (a .tiles) tiles)) p b₁ q b₂ → Appended 61 (closing (a .covered) n m (a .score)) q b₂ r b₃ → Written (pairLines i j minimum n m (tilesIn (a .tiles) tiles)) b₀ r b₃
 unfolding pairLines
 pair-written n m a tiles i j minimum p q r b₀ b₁ b₂ b₃ l x y z =

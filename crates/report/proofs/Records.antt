@@ -1,13 +1,13 @@
 -- What was read from a record: a buffer of 2,048 words holds any sequence, so reading is refused for the record's own causes alone, and
 -- the start of the buffer is the sequence.
 -- Assumes nothing.
-use Prim.Native.Nat.{ℕ, _+_, _-_, _≤_, _<_}
+use Prim.Native.Nat.{ℕ, _+_, _-_, _≤_}
 use native.Mathlib.Omega.{arith}
 use mathlib.Core.Path.{_≡_, refl, sym, _∙_, ap}
 use mathlib.Core.Bool.{Bool, true, false}
 use mathlib.Core.List.{List, [], _∷_}
 use lib.Dec.{ltb}
-use lib.ListN.{length, take, drop, length-append, length-take, length-drop}
+use lib.ListN.{length, take, drop, length-drop}
 use lib.Seq.{take-at, take-all, length-take-le}
 use Rattle.symbol.proofs.Refusal.{outcome-refused, outcome-accepted}
 use Rattle.buffer.specs.Buffer.{onto}

@@ -1,16 +1,15 @@
 -- The words of bytes, four by four, and the loop that stores them.
 -- Assumes nothing.
 use Prim.Native.Nat.{ℕ, zero, suc, _+_, _*_, _≤_, _<_}
-use native.Mathlib.Nat.{not-suc-le-zero}
 use native.Mathlib.Omega.{arith}
 use native.Mathlib.Numerals.{add-one}
 use mathlib.Core.Path.{_≡_, refl, sym, _∙_, ap}
-use mathlib.Core.List.{List, [], _∷_, _++_}
+use mathlib.Core.List.{List, [], _∷_}
 use lib.ListN.{length, getD, take, set, length-take}
 use lib.Seq.{take-suc, take-all, length-take-le}
 use Rattle.buffer.specs.Buffer.{onto}
 use Rattle.buffer.proofs.Buffer.{onto-more, length-onto}
-use Rattle.report.specs.Words.{wordsOf, wordAt}
+use Rattle.report.specs.Words.{word, wordsOf, wordAt}
 
 -- ---- how many words there are, and which
 pub words-least : (bytes : List ℕ) → 4 * length (wordsOf bytes) ≤ length bytes
@@ -29,19 +28,31 @@ words-most (a ∷ b ∷ []) = omega arith
 words-most (a ∷ []) = omega arith
 words-most [] = omega arith
 
+four : (k : ℕ) → 4 * suc k ≡ suc (suc (suc (suc (4 * k))))
+four k = omega arith
+
 pub word-at : (bytes : List ℕ) (i : ℕ) → 4 * i + 4 ≤ length bytes → getD (wordsOf bytes) i 0 ≡ wordAt bytes i
 unfolding wordsOf
 word-at (a ∷ b ∷ c ∷ d ∷ bytes) zero h = refl
 word-at (a ∷ b ∷ c ∷ d ∷ bytes) (suc i) h =
-    let n : 4 * suc i ≡ suc (suc (suc (suc (4 * i)))) = omega arith in
     let n1 : 4 * suc i + 1 ≡ suc (suc (suc (suc (4 * i + 1)))) = omega arith in
     let n2 : 4 * suc i + 2 ≡ suc (suc (suc (suc (4 * i + 2)))) = omega arith in
     let n3 : 4 * suc i + 3 ≡ suc (suc (suc (suc (4 * i + 3)))) = omega arith in
-    rw (n1, n2, n3, n) (word-at bytes i (omega arith))
+    rw (n1, n2, n3, four i) (word-at bytes i (omega arith))
 word-at (a ∷ b ∷ c ∷ []) i h = absurd (omega arith)
 word-at (a ∷ b ∷ []) i h = absurd (omega arith)
 word-at (a ∷ []) i h = absurd (omega arith)
 word-at [] i h = absurd (omega arith)
+
+-- The words of the first 4 * k bytes are the first k words.
+pub words-cut : (k : ℕ) (bytes : List ℕ) → wordsOf (take (4 * k) bytes) ≡ take k (wordsOf bytes)
+unfolding wordsOf
+words-cut zero bytes = refl
+words-cut (suc k) (a ∷ b ∷ c ∷ d ∷ bytes) = rw (four k) (ap (λ ws. word a b c d ∷ ws) (words-cut k bytes))
+words-cut (suc k) (a ∷ b ∷ c ∷ []) = rw (four k) refl
+words-cut (suc k) (a ∷ b ∷ []) = rw (four k) refl
+words-cut (suc k) (a ∷ []) = rw (four k) refl
+words-cut (suc k) [] = rw (four k) refl
 
 -- ---- the loop of store_words: the first i words are stored
 pub record Stored (bytes w₀ w : List ℕ) (i : ℕ) : Type 0 where

@@ -1,5 +1,5 @@
 -- Inputs of the pair program with what it prints for them, and the test that each comes out as written.
-use Prim.Native.Nat.{ℕ, zero, suc, _+_, _/_, _%_}
+use Prim.Native.Nat.{ℕ, _+_, _/_, _%_}
 use mathlib.Core.Bool.{Bool, true, _&&_}
 use mathlib.Core.List.{List, [], _∷_, _++_}
 use Rattle.tiling.specs.Known.{same, shorter, longer}

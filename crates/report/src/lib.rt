@@ -2,7 +2,7 @@
 use tiling::Compared;
 ghost use mathlib.Core.Path.{_≡_};
 ghost use mathlib.Core.List.{[], _∷_};
-ghost use Prim.Native.Nat.{_+_, _*_, _≤_, _<_, min, max};
+ghost use Prim.Native.Nat.{_+_, _*_, _≤_, _<_, max};
 ghost use lib.ListN.{length, take};
 ghost use Rattle.io.specs.Counts.{Counts};
 ghost use Rattle.buffer.specs.Buffer.{onto};
@@ -47,7 +47,7 @@ fn store_words(bytes: &[u8], words: &mut [u32]) -> usize
 }
 
 // Writes the line of a refusal.
-fn refused(out: &mut [u8], r: u32) -> usize
+fn refused_line(out: &mut [u8], r: u32) -> usize
     requires { ⌜ 92284 ≤ length (now out) ⌝ }
     ensures { λ n. ⌜ Written (refusedLine r) (now (out .entry)) n (now (out .exit)) ⌝ }
 {
@@ -55,7 +55,7 @@ fn refused(out: &mut [u8], r: u32) -> usize
 }
 
 // Writes the lines before the tiles.
-fn open(out: &mut [u8], a: u32, b: u32, minimum: u32, tiles: u32) -> usize
+fn opening_lines(out: &mut [u8], a: u32, b: u32, minimum: u32, tiles: u32) -> usize
     requires { ⌜ 63 ≤ length (now out) ⌝ }
     ensures { λ r. ⌜ Appended 63 (opening a b minimum tiles) 0 (now (out .entry)) r (now (out .exit)) ⌝ }
 {
@@ -107,7 +107,7 @@ fn tile_lines(out: &mut [u8], at: usize, tiles: &[u32], count: usize) -> usize
 }
 
 // Writes the lines after the tiles.
-fn close(out: &mut [u8], at: usize, sum: u32, n: u32, m: u32, points: u32) -> usize
+fn closing_lines(out: &mut [u8], at: usize, sum: u32, n: u32, m: u32, points: u32) -> usize
     requires { ⌜ at + 61 ≤ length (now out) ⌝ }
     ensures { λ r. ⌜ Appended 61 (closing sum n m points) at (now (out .entry)) r (now (out .exit)) ⌝ }
 {
@@ -131,9 +131,9 @@ fn pair_lines(
     requires { ⌜ Laid n m answer (now tiles) ⌝ }
     ensures { λ r. ⌜ Written (pairLines a b minimum n m (tilesIn (answer .tiles) (now (tiles .entry)))) (now (out .entry)) r (now (out .exit)) ⌝ }
 {
-    let opened = open(out, a, b, minimum, answer.tiles);
+    let opened = opening_lines(out, a, b, minimum, answer.tiles);
     let listed = tile_lines(out, opened, tiles, answer.tiles as usize);
-    close(out, listed, answer.covered, n, m, answer.score)
+    closing_lines(out, listed, answer.covered, n, m, answer.score)
 }
 
 // The first search length: 20, or the minimum if larger.
@@ -146,7 +146,8 @@ fn search_length(minimum: u32) -> u32
     20
 }
 
-// Compares two sequences by the search, with the program's settings. The tiles go to the start of the tile buffer.
+// Compares two sequences by the search, with the program's settings: multiplier 257 and 256 buckets. The tiles go to the
+// start of the tile buffer. Workspace and tile buffer are as long as two sequences of 2,048 words can ask.
 fn search_pair(first: &[u32], second: &[u32], minimum: u32, tiles: &mut [u32]) -> Compared
     requires { ⌜ (length (now first) ≤ 2048) × (length (now second) ≤ 2048) × (length (now tiles) ≡ 6144) ⌝ }
     ensures { λ r. ⌜ Searched (now (first .entry)) (now (second .entry)) minimum r (now (tiles .exit)) ⌝ }
@@ -173,7 +174,7 @@ fn compare(out: &mut [u8], a: u32, b: u32, minimum: u32, first: &[u32], second: 
     let mut tiles = [0u32; 6144];
     let answer = search_pair(first, second, minimum, &mut tiles);
     if answer.refusal != 0 {
-        return refused(out, answer.refusal);
+        return refused_line(out, answer.refusal);
     }
     pair_lines(
         out,
@@ -195,7 +196,7 @@ fn from_second(out: &mut [u8], a: u32, minimum: u32, first: &[u32], src: &[u32])
     let mut second = [0u32; 2048];
     let got = record::read(src, &mut second);
     if got.refusal != 0 {
-        return refused(out, got.refusal);
+        return refused_line(out, got.refusal);
     }
     let count = got.count as usize;
     compare(out, a, got.id, minimum, first, &second[..count])
@@ -209,7 +210,7 @@ fn from_first(out: &mut [u8], minimum: u32, src: &[u32]) -> usize
     let mut first = [0u32; 2048];
     let got = record::read(src, &mut first);
     if got.refusal != 0 {
-        return refused(out, got.refusal);
+        return refused_line(out, got.refusal);
     }
     let count = got.count as usize;
     let used = got.used as usize;
@@ -222,7 +223,7 @@ fn from_words(out: &mut [u8], words: &[u32]) -> usize
     ensures { λ r. ⌜ Written (fromWords (now (words .entry))) (now (out .entry)) r (now (out .exit)) ⌝ }
 {
     if words.len() == 0 {
-        return refused(out, 8);
+        return refused_line(out, 8);
     }
     from_first(out, words[0], &words[1..])
 }

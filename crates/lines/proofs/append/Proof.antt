@@ -1,3 +1,5 @@
+-- `lines::append` meets its contract: the text goes to the start of the tail that begins at the position.
+-- Assumes nothing.
 use Rattle.lines.proofs.Appended.{appended}
 use borrow.Author.Needs.{needs}
 use Rattle.lines.proofs.append.Statement.{statement}

@@ -1,3 +1,5 @@
+-- `lines::line` meets its contract: the end of the line follows the phrase.
+-- Assumes nothing.
 use Rattle.lines.proofs.Appended.{both}
 use Rattle.lines.specs.Text.{ascii}
 use borrow.Author.Needs.{needs}

@@ -1,3 +1,5 @@
+-- `lines::number` meets its contract: the library's digits are the number's decimal digits, at most ten.
+-- Assumes nothing.
 use Rattle.lines.proofs.Decimal.{digits-fit, number-appended}
 use borrow.Author.Needs.{needs}
 use Rattle.lines.proofs.number.Statement.{statement}

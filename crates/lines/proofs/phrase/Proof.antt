@@ -1,3 +1,5 @@
+-- `lines::phrase` meets its contract: the numbers follow the word.
+-- Assumes nothing.
 use Rattle.lines.proofs.Appended.{both}
 use borrow.Author.Needs.{needs}
 use Rattle.lines.proofs.phrase.Statement.{statement}

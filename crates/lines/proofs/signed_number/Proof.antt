@@ -1,3 +1,5 @@
+-- `lines::signed_number` meets its contract: the size follows a minus just where the number is below zero.
+-- Assumes nothing.
 use Rattle.lines.proofs.Signed.{signed-below, signed-other}
 use borrow.Author.Needs.{needs}
 use Rattle.lines.proofs.signed_number.Statement.{statement}

@@ -1,3 +1,5 @@
+-- `lines::spaced_number` meets its contract: the number follows a space.
+-- Assumes nothing.
 use Rattle.lines.proofs.Spaced.{spaced-one}
 use borrow.Author.Needs.{needs}
 use Rattle.lines.proofs.spaced_number.Statement.{statement}

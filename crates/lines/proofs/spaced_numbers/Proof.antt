@@ -1,3 +1,5 @@
+-- `lines::spaced_numbers` meets its contract: after i turns the first i numbers are written.
+-- Assumes nothing.
 use Prim.Native.Nat.{_-_}
 use lib.ListN.{length}
 use Rattle.lines.proofs.Spaced.{Spaced, spaced-none, spaced-more, spaced-all}

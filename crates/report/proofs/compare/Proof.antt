@@ -11,8 +11,8 @@ slice-aggregate-search-pair c = search needs
 search-pair-requires : tie.Need-search-pair-requires
 search-pair-requires c κs = search needs
 
-refused-requires : tie.Need-refused-requires
-refused-requires c κs = search needs
+refused-line-requires : tie.Need-refused-line-requires
+refused-line-requires c κs = search needs
 
 same-length : tie.Need-same-length
 same-length c = search needs
@@ -44,7 +44,7 @@ compare-spec =
     (tie.spec
     slice-aggregate-search-pair
     search-pair-requires
-    refused-requires
+    refused-line-requires
     same-length
     returns
     cast-pair-lines

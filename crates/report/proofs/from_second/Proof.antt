@@ -11,8 +11,8 @@ slice-aggregate-read c = search needs
 read-requires : tie.Need-read-requires
 read-requires c κs = search needs
 
-refused-requires : tie.Need-refused-requires
-refused-requires c κs = search needs
+refused-line-requires : tie.Need-refused-line-requires
+refused-line-requires c κs = search needs
 
 same-length : tie.Need-same-length
 same-length c = search needs
@@ -44,7 +44,7 @@ from-second-spec =
     (tie.spec
     slice-aggregate-read
     read-requires
-    refused-requires
+    refused-line-requires
     same-length
     returns
     cast-count

@@ -5,8 +5,8 @@ use borrow.Author.Needs.{needs}
 use Rattle.report.proofs.from_words.Statement.{statement}
 use Rattle.report.proofs.from_words.Tie as tie
 
-refused-requires : tie.Need-refused-requires
-refused-requires c κs = search needs
+refused-line-requires : tie.Need-refused-line-requires
+refused-line-requires c κs = search needs
 
 same-length : tie.Need-same-length
 same-length c = search needs
@@ -39,7 +39,7 @@ pub from-words-spec : {M : Type 1} → statement M
 from-words-spec =
     tie.close
     (tie.spec
-    refused-requires
+    refused-line-requires
     same-length
     returns
     shared-slice-read-from-first

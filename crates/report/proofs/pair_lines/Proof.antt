@@ -5,8 +5,8 @@ use borrow.Author.Needs.{needs}
 use Rattle.report.proofs.pair_lines.Statement.{statement}
 use Rattle.report.proofs.pair_lines.Tie as tie
 
-open-requires : tie.Need-open-requires
-open-requires c κs = search needs
+opening-lines-requires : tie.Need-opening-lines-requires
+opening-lines-requires c κs = search needs
 
 cast-tile-lines : tie.Need-cast-tile-lines
 cast-tile-lines c = search needs
@@ -14,8 +14,8 @@ cast-tile-lines c = search needs
 tile-lines-requires : tie.Need-tile-lines-requires
 tile-lines-requires c κs = search needs
 
-close-requires : tie.Need-close-requires
-close-requires c κs = search needs
+closing-lines-requires : tie.Need-closing-lines-requires
+closing-lines-requires c κs = search needs
 
 same-length : tie.Need-same-length
 same-length c = search needs
@@ -26,4 +26,4 @@ returns c = search pair-written
 pub pair-lines-spec : {M : Type 1} → statement M
 pair-lines-spec =
     tie.close
-    (tie.spec open-requires cast-tile-lines tile-lines-requires close-requires same-length returns)
+    (tie.spec opening-lines-requires cast-tile-lines tile-lines-requires closing-lines-requires same-length returns)

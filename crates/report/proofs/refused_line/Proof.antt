@@ -1,10 +1,10 @@
--- `report::refused` meets its contract: the line is the whole output.
+-- `report::refused_line` meets its contract: the line is the whole output.
 -- Assumes nothing.
 use Rattle.lines.specs.Text.{ascii}
 use Rattle.report.proofs.Lines.{refused-written}
 use borrow.Author.Needs.{needs}
-use Rattle.report.proofs.refused.Statement.{statement}
-use Rattle.report.proofs.refused.Tie as tie
+use Rattle.report.proofs.refused_line.Statement.{statement}
+use Rattle.report.proofs.refused_line.Tie as tie
 
 slice-aggregate-line : tie.Need-slice-aggregate-line
 slice-aggregate-line c = search needs
@@ -22,7 +22,7 @@ returns : tie.Need-returns
 unfolding ascii
 returns c = search refused-written
 
-pub refused-spec : {M : Type 1} → statement M
-refused-spec =
+pub refused-line-spec : {M : Type 1} → statement M
+refused-line-spec =
     tie.close
     (tie.spec slice-aggregate-line slice-aggregate-line-2 line-requires same-length returns)

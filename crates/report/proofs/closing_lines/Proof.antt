@@ -1,10 +1,10 @@
--- `report::close` meets its contract: its lines are written one after another.
+-- `report::closing_lines` meets its contract: its lines are written one after another.
 -- Assumes nothing.
 use Rattle.lines.specs.Text.{ascii}
 use Rattle.report.proofs.Lines.{closed}
 use borrow.Author.Needs.{needs}
-use Rattle.report.proofs.close.Statement.{statement}
-use Rattle.report.proofs.close.Tie as tie
+use Rattle.report.proofs.closing_lines.Statement.{statement}
+use Rattle.report.proofs.closing_lines.Tie as tie
 
 slice-aggregate-phrase : tie.Need-slice-aggregate-phrase
 slice-aggregate-phrase c = search needs
@@ -40,8 +40,8 @@ returns : tie.Need-returns
 unfolding ascii
 returns c = search closed
 
-pub close-spec : {M : Type 1} → statement M
-close-spec =
+pub closing-lines-spec : {M : Type 1} → statement M
+closing-lines-spec =
     tie.close
     (tie.spec
     slice-aggregate-phrase

@@ -1,10 +1,10 @@
--- `report::open` meets its contract: its lines are written one after another.
+-- `report::opening_lines` meets its contract: its lines are written one after another.
 -- Assumes nothing.
 use Rattle.lines.specs.Text.{ascii}
 use Rattle.report.proofs.Lines.{opened}
 use borrow.Author.Needs.{needs}
-use Rattle.report.proofs.open.Statement.{statement}
-use Rattle.report.proofs.open.Tie as tie
+use Rattle.report.proofs.opening_lines.Statement.{statement}
+use Rattle.report.proofs.opening_lines.Tie as tie
 
 slice-aggregate-line : tie.Need-slice-aggregate-line
 slice-aggregate-line c = search needs
@@ -40,8 +40,8 @@ returns : tie.Need-returns
 unfolding ascii
 returns c = search opened
 
-pub open-spec : {M : Type 1} → statement M
-open-spec =
+pub opening-lines-spec : {M : Type 1} → statement M
+opening-lines-spec =
     tie.close
     (tie.spec
     slice-aggregate-line
