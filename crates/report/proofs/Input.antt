@@ -105,31 +105,31 @@ unfolding pairReport
 input-enough input = rw (words-cut 4101 input) (words-enough (wordsOf input) 4101 (omega arith))
 
 -- ---- what report writes: it stored the first words of the input
-module _ (input w w' : List ℕ) (n : ℕ) (room : length w ≡ 4101) (counted : n ≡ length (take (length w) (wordsOf input))) (stored : w' ≡ onto (take (length w) (wordsOf input)) w) where
+module _ (input w w' : List ℕ) (n : ℕ) (counted : n ≡ length (take (length w) (wordsOf input))) (stored : w' ≡ onto (take (length w) (wordsOf input)) w) where
   pub stored-fit : n ≤ length w'
   stored-fit = omega (arith, counted, ap length stored, length-onto (take (length w) (wordsOf input)) w (omega (arith, length-take (length w) (wordsOf input))), length-take (length w) (wordsOf input))
 
   pub stored-count : n ≡ length (take n w')
   stored-count = sym (length-take-le n w' stored-fit)
 
-  reported : (o : List ℕ) (r : ℕ) (o' : List ℕ) → Written (fromWords (take n w')) o r o' → Written (pairReport input) o r o'
+  reported : length w ≡ 4101 → (o : List ℕ) (r : ℕ) (o' : List ℕ) → Written (fromWords (take n w')) o r o' → Written (pairReport input) o r o'
   unfolding pairReport
-  reported o r o' a =
+  reported room o r o' a =
       let ws = take (length w) (wordsOf input) in
       let e : take n w' ≡ take 4101 (wordsOf input) =
       rw stored (take-at ws (drop (length ws) w) n (sym counted)) ∙ ap (λ k. take k (wordsOf input)) room in
       rw (← words-enough (wordsOf input) 4101 (omega arith), ← e) a
 
-  module _ (o : List ℕ) (r : ℕ) (o' : List ℕ) (a : Written (fromWords (take n w')) o r o') where
+  module _ (room : length w ≡ 4101) (o : List ℕ) (r : ℕ) (o' : List ℕ) (a : Written (fromWords (take n w')) o r o') where
     pub report-count : r ≡ length (pairReport input)
-    report-count = reported o r o' a .count
+    report-count = reported room o r o' a .count
 
     pub report-held : o' ≡ onto (pairReport input) o
-    report-held = reported o r o' a .held
+    report-held = reported room o r o' a .held
 
     pub report-fits : length o ≡ 92284 → r ≤ length o'
     report-fits long =
-        let few : r ≤ 92284 = reported o r o' a .few in
+        let few : r ≤ 92284 = reported room o r o' a .few in
         let n = report-count in
         omega (arith, few, ap length report-held, length-onto (pairReport input) o (omega (arith, few, n)))
 
