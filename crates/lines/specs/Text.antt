@@ -22,7 +22,7 @@ digits (suc fuel) n =
 unfoldable pub decimal : ℕ → List ℕ
 decimal n = digits (suc n) n
 
--- The same with a minus in front where the number is below zero.
+-- The same with a minus in front where the number is below zero: 01 prints a shift with its sign.
 unfoldable pub signed : ℤ → List ℕ
 signed (pos n) = decimal n
 signed (negsuc n) = ascii "-" ++ decimal (suc n)

@@ -18,7 +18,7 @@ use Rattle.tiling.proofs.Comparing.{fast-minimum}
 use Rattle.tiling.proofs.Answers.{answers-number, answers-listed, answers-tiles, answers-covered, answers-score, answers-tiled}
 use Rattle.tiling.proofs.Demand.{tiles-fit}
 use Rattle.search.specs.Promise.{Fast}
-use Rattle.report.specs.Pair.{refusedLine, comparing, pairLines, compared}
+use Rattle.report.specs.Pair.{refusedLine, comparing, pairLines, fromPair}
 use Rattle.report.specs.Written.{Written, Starts, Laid, Searched}
 
 -- The room is never the cause.
@@ -68,15 +68,15 @@ module _ (first second : List ℕ) (minimum : ℕ) (a : Compared) (tiles : List 
   laid-there = e .laid
 
   module _ (i j : ℕ) (o : List ℕ) (r : ℕ) (o' : List ℕ) where
-    pub compared-accepted : a .refusal ≡ 0 → Written (pairLines i j minimum (length first) (length second) (tilesIn (a .tiles) tiles)) o r o' → Written (compared i j minimum first second) o r o'
-    unfolding compared
+    pub compared-accepted : a .refusal ≡ 0 → Written (pairLines i j minimum (length first) (length second) (tilesIn (a .tiles) tiles)) o r o' → Written (fromPair i j minimum first second) o r o'
+    unfolding fromPair
     compared-accepted z w =
         let text = pairLines i j minimum (length first) (length second) (listing first second minimum) in
         let w' : Written text o r o' = rw (← e .listed z) w in
         rw (outcome-accepted (comparing first second minimum) text (refusedLine (comparing first second minimum)) (sym (e .refusal) ∙ z)) w'
 
-    pub compared-refused : (a .refusal ≡ 0 → ⊥) → Written (refusedLine (a .refusal)) o r o' → Written (compared i j minimum first second) o r o'
-    unfolding compared
+    pub compared-refused : (a .refusal ≡ 0 → ⊥) → Written (refusedLine (a .refusal)) o r o' → Written (fromPair i j minimum first second) o r o'
+    unfolding fromPair
     compared-refused d w =
         let text = pairLines i j minimum (length first) (length second) (listing first second minimum) in
         rw (← e .refusal, outcome-refused (a .refusal) text (refusedLine (a .refusal)) d) w

@@ -13,9 +13,9 @@ use Rattle.tiling.specs.Listing.{firstIsPattern, listing, covered, score, shift
 use Rattle.tiling.specs.Known.{same, shorter, longer}
 use Rattle.lines.specs.Text.{ascii, digits, decimal, signed, spaced}
 use Rattle.report.specs.Words.{wordsOf}
-use Rattle.report.specs.Pair.{refusedLine, shiftEnd, tileLine, tileLines, opening, closing, pairLines, compared, fromSecond, fromFirst, fromWords, pairReport}
+use Rattle.report.specs.Pair.{refusedLine, shiftEnd, tileLine, tileLines, opening, closing, pairLines, fromPair, fromSecond, fromFirst, fromWords, pairReport}
 use Rattle.report.specs.Known.{bytesOf, first, second, cases, all-hold}
 
 pub known : all-hold cases ≡ true
-unfolding kind low code isCall isNoCall isSound matches allSound idOf countOf sumLow checksum closes run mark peak greedy bestText rowLength best lay tiling firstIsPattern listing covered score shift same shorter longer ascii digits decimal signed spaced wordsOf refusedLine shiftEnd tileLine tileLines opening closing pairLines compared fromSecond fromFirst fromWords pairReport bytesOf first second cases all-hold
+unfolding kind low code isCall isNoCall isSound matches allSound idOf countOf sumLow checksum closes run mark peak greedy bestText rowLength best lay tiling firstIsPattern listing covered score shift same shorter longer ascii digits decimal signed spaced wordsOf refusedLine shiftEnd tileLine tileLines opening closing pairLines fromPair fromSecond fromFirst fromWords pairReport bytesOf first second cases all-hold
 known = refl

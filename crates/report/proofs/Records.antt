@@ -16,7 +16,7 @@ use Rattle.record.specs.Format.{idOf}
 use Rattle.record.specs.Reading.{head, count, sequence, readRefusal, readAnswer, readBuffer}
 use Rattle.record.specs.declared.ReadAnswer.{ReadAnswer}
 use Rattle.record.proofs.Reading.{Accepted, accepted}
-use Rattle.report.specs.Pair.{refusedLine, unless, reading, compared, fromSecond, fromFirst, fromWords}
+use Rattle.report.specs.Pair.{refusedLine, unless, reading, fromPair, fromSecond, fromFirst, fromWords}
 use Rattle.report.specs.Written.{Written}
 
 -- The room is never the cause.
@@ -90,12 +90,12 @@ module _ (src : List ℕ) (a : ReadAnswer) (b b' : List ℕ) (e : a ≡ readAnsw
     unfolding fromFirst
     first-refused minimum d w = unless-refused d _ w
 
-    pub second-accepted : (i minimum : ℕ) (first : List ℕ) → a .refusal ≡ 0 → Written (compared i (a .id) minimum first (take (a .count) b')) o r o' → Written (fromSecond i minimum first src) o r o'
+    pub second-accepted : (i minimum : ℕ) (first : List ℕ) → a .refusal ≡ 0 → Written (fromPair i (a .id) minimum first (take (a .count) b')) o r o' → Written (fromSecond i minimum first src) o r o'
     unfolding fromSecond
     second-accepted i minimum first z w =
         let g = got z in
-        let w' : Written (compared i (idOf (head src)) minimum first (sequence src)) o r o' = rw (← g .id, ← g .prefix) w in
-        rw (outcome-accepted (reading src) (compared i (idOf (head src)) minimum first (sequence src)) (refusedLine (reading src)) (g .none)) w'
+        let w' : Written (fromPair i (idOf (head src)) minimum first (sequence src)) o r o' = rw (← g .id, ← g .prefix) w in
+        rw (outcome-accepted (reading src) (fromPair i (idOf (head src)) minimum first (sequence src)) (refusedLine (reading src)) (g .none)) w'
 
     pub first-accepted : (minimum : ℕ) → a .refusal ≡ 0 → Written (fromSecond (a .id) minimum (take (a .count) b') (take (length src - a .used) (drop (a .used) src))) o r o' → Written (fromFirst minimum src) o r o'
     unfolding fromFirst

@@ -23,7 +23,8 @@ unfoldable pub tileLines : List Entry → List ℕ
 tileLines [] = []
 tileLines (e ∷ es) = tileLine e ++ tileLines es
 
--- "Lines: fish numbers; minimum; tile count; per tile ..; covered and both lengths; score." The ids are 01's fish numbers, n and m the lengths; in three parts.
+-- "Lines: fish numbers; minimum; tile count; per tile ..; covered and both lengths; score." Here in three parts; a and b are the ids (01:
+-- fish numbers), n and m the lengths.
 unfoldable pub opening : ℕ → ℕ → ℕ → ℕ → List ℕ
 opening a b minimum tiles =
     line (ascii "FISH") (a ∷ b ∷ [])
@@ -56,17 +57,17 @@ reading src = frame src (content src 0)
 abbrev pub comparing : List ℕ → List ℕ → ℕ → ℕ
 comparing first second minimum = sequences first second (minimums minimum (settings minimum 256 (max 20 minimum) 0))
 
--- "The first strip is read, then the second, then the pair is compared." The pair, from two ids, the minimum and two sequences; then
--- from the words of the second record on; then from those of the first.
-unfoldable pub compared : ℕ → ℕ → ℕ → List ℕ → List ℕ → List ℕ
-compared a b minimum first second =
+-- "The first strip is read, then the second, then the pair is compared." What is printed where the pair is at hand: two ids, the minimum
+-- and two sequences; where the second record has to be read from src; where the first has.
+unfoldable pub fromPair : ℕ → ℕ → ℕ → List ℕ → List ℕ → List ℕ
+fromPair a b minimum first second =
     unless (comparing first second minimum)
     (pairLines a b minimum (length first) (length second) (listing first second minimum))
 
 unfoldable pub fromSecond : ℕ → ℕ → List ℕ → List ℕ → List ℕ
 fromSecond a minimum first src =
     unless (reading src)
-    (compared a (idOf (head src)) minimum first (sequence src))
+    (fromPair a (idOf (head src)) minimum first (sequence src))
 
 unfoldable pub fromFirst : ℕ → List ℕ → List ℕ
 fromFirst minimum src =

@@ -11,7 +11,7 @@ ghost use Rattle.tiling.specs.Demand.{tilesIn};
 ghost use Rattle.lines.specs.Text.{decimal, phrase};
 ghost use Rattle.lines.specs.Appended.{Appended};
 ghost use Rattle.report.specs.Words.{wordsOf, wordAt};
-ghost use Rattle.report.specs.Pair.{refusedLine, shiftEnd, tileLine, tileLines, opening, closing, pairLines, compared, fromSecond, fromFirst, fromWords, pairReport};
+ghost use Rattle.report.specs.Pair.{refusedLine, shiftEnd, tileLine, tileLines, opening, closing, pairLines, fromPair, fromSecond, fromFirst, fromWords, pairReport};
 ghost use Rattle.report.specs.Written.{Written, Starts, Laid, Searched};
 
 // A byte as a number of a word's width.
@@ -169,7 +169,7 @@ fn search_pair(first: &[u32], second: &[u32], minimum: u32, tiles: &mut [u32]) -
 // Compares two sequences and writes the report.
 fn compare(out: &mut [u8], a: u32, b: u32, minimum: u32, first: &[u32], second: &[u32]) -> usize
     requires { ⌜ (92284 ≤ length (now out)) × (length (now first) ≤ 2048) × (length (now second) ≤ 2048) ⌝ }
-    ensures { λ r. ⌜ Written (compared a b minimum (now (first .entry)) (now (second .entry))) (now (out .entry)) r (now (out .exit)) ⌝ }
+    ensures { λ r. ⌜ Written (fromPair a b minimum (now (first .entry)) (now (second .entry))) (now (out .entry)) r (now (out .exit)) ⌝ }
 {
     let mut tiles = [0u32; 6144];
     let answer = search_pair(first, second, minimum, &mut tiles);
