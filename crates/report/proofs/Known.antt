@@ -1,0 +1,21 @@
+-- Every input of the list is answered as written, the worked example of 01 among them: the checker computes the definition.
+-- Assumes nothing.
+use mathlib.Core.Bool.{true}
+use mathlib.Core.Path.{_≡_, refl}
+use Rattle.symbol.specs.Word.{kind, low, code, isCall, isNoCall, isSound, matches}
+use Rattle.symbol.specs.Sequence.{allSound}
+use Rattle.record.specs.Format.{idOf, countOf, sumLow, checksum}
+use Rattle.record.specs.Reading.{closes}
+use Rattle.tiling.specs.Run.{run, mark}
+use Rattle.tiling.specs.Greedy.{peak, greedy}
+use Rattle.tiling.specs.Tiling.{bestText, rowLength, best, lay, tiling}
+use Rattle.tiling.specs.Listing.{firstIsPattern, listing, covered, score, shift}
+use Rattle.tiling.specs.Known.{same, shorter, longer}
+use Rattle.lines.specs.Text.{ascii, digits, decimal, signed, spaced}
+use Rattle.report.specs.Words.{wordsOf}
+use Rattle.report.specs.Pair.{refusedLine, shiftEnd, tileLine, tileLines, opening, closing, pairLines, fromPair, fromSecond, fromFirst, fromWords, pairReport}
+use Rattle.report.specs.Known.{bytesOf, first, second, cases, all-hold}
+
+pub known : all-hold cases ≡ true
+unfolding kind low code isCall isNoCall isSound matches allSound idOf countOf sumLow checksum closes run mark peak greedy bestText rowLength best lay tiling firstIsPattern listing covered score shift same shorter longer ascii digits decimal signed spaced wordsOf refusedLine shiftEnd tileLine tileLines opening closing pairLines fromPair fromSecond fromFirst fromWords pairReport bytesOf first second cases all-hold
+known = refl

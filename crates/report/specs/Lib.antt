@@ -1,0 +1,4 @@
+pub mod Words
+pub mod Pair
+pub mod Written
+pub mod Known
