@@ -16,7 +16,7 @@ loop-holds : tie.Need-loop-holds Inv-loop μ-loop
 loop-holds c = search lowering-none
 
 sweep-rows-requires : tie.Need-sweep-rows-requires Inv-loop μ-loop
-sweep-rows-requires c κs = (search lowering-sweep, search needs, search needs)
+sweep-rows-requires c κs = (search (lowering-sweep, needs), search needs, search needs)
 
 greatest-bound-requires : tie.Need-greatest-bound-requires Inv-loop μ-loop
 greatest-bound-requires c κs = search needs
