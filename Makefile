@@ -2,10 +2,18 @@
 SHELL := /bin/bash
 .SHELLFLAGS := -euo pipefail -c
 .ONESHELL:
-.PHONY: library test bench check clean
+.PHONY: pair test library bench check clean
 
 # Builds and runs a program of tests/.
 run := cargo run --offline --quiet --manifest-path tests/Cargo.toml --target-dir target/cargo
+
+# Proves and builds the pair program and all that it stands on, and runs it on the worked example.
+pair:
+	@log=$$(mktemp)
+	trap 'rm -f "$$log"' EXIT
+	echo "Proving and building the pair program; this takes a few minutes the first time."
+	rt check pair > "$$log" 2>&1 || { cat "$$log"; exit 1; }
+	target/bin/pair < crates/pair/stdin
 
 # Proves everything from nothing and runs the Rust test program; ends with the last line of `rt ci`.
 test:

@@ -31,14 +31,29 @@ pub static PLAIN: Column = Column {
 pub static FAST: Column = Column {
     name: "fast engine",
     compare: |first, second, minimum, start, workspace, tiles| {
-        let settings = Settings {
-            multiplier: 257,
-            buckets: 256,
-            start,
-        };
+        let settings = hashed_by(1_024, start);
         core::compare_fast(first, second, minimum, settings, workspace, tiles)
     },
 };
+
+/// The fast engine as the pair program sets it. With multiplier 257 and 256 buckets the bucket is the sum
+/// of a window's words, so that many windows share one.
+pub static PAIR: Column = Column {
+    name: "fast engine, 256 buckets",
+    compare: |first, second, minimum, start, workspace, tiles| {
+        let settings = hashed_by(256, start);
+        core::compare_fast(first, second, minimum, settings, workspace, tiles)
+    },
+};
+
+/// The pair program's multiplier with so many buckets.
+fn hashed_by(buckets: u32, start: u32) -> Settings {
+    Settings {
+        multiplier: 257,
+        buckets,
+        start,
+    }
+}
 
 /// What they are measured against.
 pub static WISE: Column = Column {

@@ -8,9 +8,8 @@ use mathlib.Core.Path.{_≡_, refl, sym, _∙_, ap, subst}
 use mathlib.Core.Bool.{false}
 use mathlib.Core.List.{List}
 use borrow.Author.Tests.{ne-eqb, le-ltb}
-use lib.Dec.{eqb, ltb}
+use lib.Dec.{eqb}
 use lib.ListN.{length}
-use Rattle.symbol.specs.Refusal.{refuse}
 use Rattle.tiling.specs.Comparing.{sequences, minimums, settings, room, plainRefusal, fastRefusal}
 use Rattle.tiling.specs.Answer.{Compares}
 use Rattle.tiling.specs.Demand.{Exchanges}

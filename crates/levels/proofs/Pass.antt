@@ -7,10 +7,9 @@ use native.Mathlib.Omega.{arith}
 use mathlib.Core.Path.{_≡_, refl, sym, _∙_, subst}
 use mathlib.Core.Bool.{Bool, true, false}
 use mathlib.Core.List.{List}
-use borrow.Author.Tests.{eqb-true, eqb-false}
+use borrow.Author.Tests.{eqb-true}
 use lib.Dec.{eqb}
 use lib.ListN.{length, drop, set}
-use Rattle.tiling.specs.Run.{run}
 use Rattle.tiling.specs.Tiling.{runAt}
 use Rattle.sweep.specs.Workspace.{state, boundsFrom, bound, laid}
 use Rattle.sweep.specs.Row.{Row, Greatest}
@@ -20,7 +19,7 @@ use Rattle.sweep.specs.declared.Found.{Found}
 use Rattle.sweep.specs.declared.Job.{Job}
 use Rattle.sweep.specs.declared.Totals.{Totals}
 use Rattle.sweep.proofs.Step.{in-pattern, in-text}
-use Rattle.sweep.proofs.Turn.{onward-none, Swept, swept-none, swept-more, swept-all, Level, level-none, level-sweep, level-less, level-more, level-done}
+use Rattle.sweep.proofs.Turn.{onward-none, Swept, swept-more, Level, level-none, level-sweep, level-more, level-done}
 use Rattle.index.specs.Indexed.{Indexed}
 use Rattle.index.proofs.Kept.{indexed-set, indexed-laid}
 use Rattle.rows.specs.Reached.{Reached}

@@ -2,7 +2,7 @@
 -- at most one more than that of the row after it.
 -- Assumes nothing.
 use Prim.Native.Nat.{ℕ, zero, suc, _+_, _-_, _*_, _^_, _≤_, _<_}
-use native.Mathlib.Decide.{decLt, decLe, ℕ-discrete}
+use native.Mathlib.Decide.{decLt, ℕ-discrete}
 use native.Mathlib.Omega.{arith}
 use mathlib.Core.Path.{_≡_, refl, sym, _∙_, subst}
 use mathlib.Core.Bool.{Bool, true, false}
@@ -11,14 +11,12 @@ use lib.ListN.{length, drop, getD, set, length-set, length-drop}
 use lib.Seq.{getD-drop, getD-take, getD-set-same, getD-set-other}
 use Rattle.symbol.specs.Word.{isCall}
 use Rattle.symbol.proofs.Word.{no-match-left}
-use Rattle.tiling.specs.Run.{run}
 use Rattle.tiling.specs.Tiling.{runAt}
 use Rattle.tiling.proofs.Run.{run-within}
 use Rattle.tiling.proofs.Best.{past-pattern}
 use Rattle.tile.proofs.Measure.{run-most}
 use Rattle.sweep.specs.Workspace.{Space, state, boundsFrom, bound}
-use Rattle.sweep.specs.Row.{Row, Greatest}
-use Rattle.sweep.specs.Progress.{Filled}
+use Rattle.sweep.specs.Row.{Greatest}
 use Rattle.sweep.specs.declared.Found.{Found}
 use Rattle.sweep.specs.declared.Job.{Job}
 use Rattle.sweep.proofs.Workspace.{state-set, space-kept, pattern-length}

@@ -10,17 +10,17 @@ use mathlib.Core.Bool.{Bool, false}
 use mathlib.Core.List.{List}
 use borrow.Author.Tests.{eqb-false}
 use lib.Dec.{eqb}
-use lib.ListN.{take, drop, getD}
+use lib.ListN.{take, drop}
 use lib.Seq.{drop-drop, getD-drop}
 use Rattle.tiling.specs.Run.{run}
 use Rattle.tiling.specs.Tiling.{State, runAt}
 use Rattle.tiling.proofs.Run.{run-match, run-least}
 use Rattle.tile.specs.declared.TextAt.{TextAt}
-use Rattle.sweep.specs.Workspace.{Space, state}
+use Rattle.sweep.specs.Workspace.{state}
 use Rattle.sweep.specs.Row.{better}
 use Rattle.sweep.specs.declared.Found.{Found}
 use Rattle.sweep.specs.declared.Job.{Job}
-use Rattle.sweep.proofs.Row.{better-new, better-old}
+use Rattle.sweep.proofs.Row.{better-old}
 use Rattle.sweep.proofs.Workspace.{rest-of-front}
 use Rattle.index.specs.Indexed.{patternHash, textHash}
 use Rattle.rows.specs.Reached.{Alike}

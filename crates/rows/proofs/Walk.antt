@@ -7,15 +7,14 @@ use native.Mathlib.Omega.{arith}
 use mathlib.Core.Path.{_≡_, refl, sym, _∙_, subst}
 use mathlib.Core.Bool.{Bool, true, false}
 use mathlib.Core.List.{List}
-use lib.ListN.{length, drop, getD, length-drop}
+use lib.ListN.{drop, getD, length-drop}
 use Rattle.window.specs.Hash.{bucket}
-use Rattle.tiling.specs.Run.{run}
 use Rattle.tiling.specs.Tiling.{runAt}
 use Rattle.tiling.proofs.Run.{run-within}
 use Rattle.tiling.proofs.Best.{past-text}
 use Rattle.tile.specs.declared.TextAt.{TextAt}
 use Rattle.sweep.specs.Workspace.{Space, state}
-use Rattle.sweep.specs.Row.{Row, better}
+use Rattle.sweep.specs.Row.{better}
 use Rattle.sweep.specs.declared.Found.{Found}
 use Rattle.sweep.specs.declared.Job.{Job}
 use Rattle.sweep.proofs.Row.{better-new, better-old}

@@ -5,7 +5,7 @@ use mathlib.Core.Path.{_≡_, sym, _∙_}
 use mathlib.Core.List.{List}
 use lib.ListN.{length}
 use Rattle.tiling.specs.Comparing.{minimums, settings, room, fastRefusal}
-use Rattle.tiling.proofs.Comparing.{MinimumsClear, SettingsClear, RoomClear, sequences-clear, minimums-clear, settings-clear, room-clear}
+use Rattle.tiling.proofs.Comparing.{MinimumsClear, SettingsClear, sequences-clear, minimums-clear, settings-clear, room-clear}
 use Rattle.sweep.specs.Result.{Checked}
 use Rattle.sweep.proofs.Outcome.{total-small}
 use Rattle.search.specs.Passing.{Set}

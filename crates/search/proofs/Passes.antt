@@ -17,7 +17,7 @@ use Rattle.tiling.proofs.Best.{best-is}
 use Rattle.tile.specs.Listed.{listed}
 use Rattle.sweep.specs.Workspace.{state, bound}
 use Rattle.sweep.specs.Row.{Greatest}
-use Rattle.sweep.specs.Progress.{Fits, Onward, Upper, Ready, Finished}
+use Rattle.sweep.specs.Progress.{Fits, Onward, Ready, Finished}
 use Rattle.sweep.specs.declared.Job.{Job}
 use Rattle.sweep.specs.declared.Totals.{Totals}
 use Rattle.sweep.specs.Result.{Listed, Checked}

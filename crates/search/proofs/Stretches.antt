@@ -1,7 +1,7 @@
 -- The longest stretch of calls, from the last word to the first. A run is at most one word longer than the run one position on, and none begins
 -- at a word that is no call, so it is no longer than the stretch that it begins in.
 -- Assumes nothing.
-use Prim.Native.Nat.{ℕ, zero, suc, _+_, _-_, _^_, _≤_, _<_, max}
+use Prim.Native.Nat.{ℕ, zero, suc, _+_, _-_, _≤_, _<_, max}
 use native.Mathlib.Decide.{ℕ-discrete}
 use native.Mathlib.Omega.{arith}
 use mathlib.Core.Path.{_≡_, refl, sym, _∙_}
@@ -12,7 +12,7 @@ use lib.Seq.{getD-drop}
 use Rattle.symbol.specs.Word.{isCall}
 use Rattle.symbol.proofs.Word.{no-match-left}
 use Rattle.tiling.specs.Run.{run}
-use Rattle.tiling.specs.Tiling.{runAt, start}
+use Rattle.tiling.specs.Tiling.{start}
 use Rattle.tiling.proofs.Run.{run-within}
 use Rattle.tile.proofs.Measure.{run-most}
 use Rattle.rows.proofs.Pairs.{run-further}

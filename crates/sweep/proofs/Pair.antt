@@ -14,7 +14,6 @@ use Rattle.symbol.specs.Word.{isCall}
 use Rattle.buffer.specs.Buffer.{onto}
 use Rattle.tiling.specs.Tiling.{start, best, size, lay, tiling}
 use Rattle.tiling.specs.Listing.{firstIsPattern, listing, tileWords, covered}
-use Rattle.tiling.specs.Tally.{tally}
 use Rattle.tiling.proofs.Tally.{tally-length}
 use Rattle.tiling.proofs.Greedy.{Greedy, done, only}
 use Rattle.tiling.proofs.Tiling.{tiling-greedy}

@@ -2,7 +2,9 @@
 //! the cycles that the paper counts. The program runs itself under callgrind, which counts only within
 //! `sigxume_counted` and writes a file after each call of it.
 
-use super::{exponent, head, rounded, row, Column, Job, Promises, FAST, LITERAL, PLAIN, WISE};
+use super::{
+    exponent, head, rounded, row, Column, Job, Promises, FAST, LITERAL, PAIR, PLAIN, WISE,
+};
 use crate::core::Compared;
 use crate::series::{self, Row};
 use crate::wise;
@@ -16,8 +18,15 @@ pub const COUNT: &str = "--count";
 
 /// The columns that are counted in a row, in this order, with the place of their first search length
 /// among those of the row. The plain engine has none; it stands beside T_GST, the others beside RKR_GST.
-static COUNTED: [(&Column, usize); 5] =
-    [(&PLAIN, 0), (&FAST, 0), (&WISE, 0), (&FAST, 1), (&WISE, 1)];
+static COUNTED: [(&Column, usize); 7] = [
+    (&PLAIN, 0),
+    (&FAST, 0),
+    (&PAIR, 0),
+    (&WISE, 0),
+    (&FAST, 1),
+    (&PAIR, 1),
+    (&WISE, 1),
+];
 
 /// The names of the first search lengths.
 const STARTS: [&str; 2] = ["20", "half"];
@@ -42,7 +51,7 @@ pub fn agree() -> bool {
     for row in series::rows() {
         good &= job(&row, 0).agree(&[&PLAIN, &LITERAL]);
         for start in 0..STARTS.len() {
-            good &= job(&row, start).agree(&[&PLAIN, &FAST, &WISE]);
+            good &= job(&row, start).agree(&[&PLAIN, &FAST, &PAIR, &WISE]);
         }
         let ([first, second], [_, half]) = (&row.pair, row.starts());
         let (_, queued) = wise::tiling(first, second, row.minimum as usize, half as usize);
@@ -164,7 +173,7 @@ fn list(counted: &[Counted]) {
         .to_vec();
     for start in STARTS {
         titles.push(format!("RKR_GST, {start}"));
-        titles.extend([&FAST, &WISE].map(|column| format!("{}, {start}", column.name)));
+        titles.extend([&FAST, &PAIR, &WISE].map(|column| format!("{}, {start}", column.name)));
     }
     head(&titles);
     for it in counted {
@@ -174,7 +183,7 @@ fn list(counted: &[Counted]) {
         cells.extend([paper.tuned, it.count(&PLAIN, 0)].map(grouped));
         for (start, cycles) in paper.cycles.into_iter().enumerate() {
             cells.push(grouped(cycles));
-            cells.extend([&FAST, &WISE].map(|column| grouped(it.count(column, start))));
+            cells.extend([&FAST, &PAIR, &WISE].map(|column| grouped(it.count(column, start))));
         }
         row(&cells);
     }
@@ -215,6 +224,7 @@ fn fit(counted: &[Counted], promises: &mut Promises) {
         "Paper, printed",
         "Paper, these rows",
         FAST.name,
+        PAIR.name,
         WISE.name,
     ];
     head(&titles.map(String::from));
@@ -226,9 +236,10 @@ fn fit(counted: &[Counted], promises: &mut Promises) {
                 rounded(exponent(&Vec::from_iter(points)))
             };
             let paper = fitted(&|it| it.row.counts.cycles[start]);
-            let [fast, port] = [&FAST, &WISE].map(|column| fitted(&|it| it.count(column, start)));
+            let [fast, pair, port] =
+                [&FAST, &PAIR, &WISE].map(|column| fitted(&|it| it.count(column, start)));
             let mut cells = vec![format!("{name}, {shown}")];
-            cells.extend([printed[start], paper, fast, port].map(|b| format!("{b:.2}")));
+            cells.extend([printed[start], paper, fast, pair, port].map(|b| format!("{b:.2}")));
             row(&cells);
             let (limit, kept) = match name {
                 "wc1" => ("below", fast < paper),

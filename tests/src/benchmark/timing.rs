@@ -1,7 +1,7 @@
 //! The time of a comparison: every column on every pair, and the engines at rising lengths.
 
 use super::{
-    exponent, head, rounded, row, Column, Job, Promises, FAST, LITERAL, PLAIN, START, WISE,
+    exponent, head, rounded, row, Column, Job, Promises, FAST, LITERAL, PAIR, PLAIN, START, WISE,
 };
 use crate::pairs::{calls, periodic, related, unrelated, Pair};
 use crate::random::Random;
@@ -14,8 +14,9 @@ const SEED: u64 = 1;
 const CODES: u16 = 40;
 const MINIMUM: u32 = 8;
 const LENGTHS: [usize; 4] = [256, 512, 1_024, 2_048];
+const SHORT: usize = 32;
 
-static COLUMNS: [&Column; 4] = [&PLAIN, &FAST, &WISE, &LITERAL];
+static COLUMNS: [&Column; 5] = [&PLAIN, &FAST, &PAIR, &WISE, &LITERAL];
 
 /// The ratios that are shown: the time of one column to that of another.
 static RATIOS: [(&Column, &Column); 3] = [(&PLAIN, &FAST), (&WISE, &FAST), (&LITERAL, &PLAIN)];
@@ -40,7 +41,10 @@ static PROMISES: [(&str, &Column, &Column, Limit); 7] = [
 
 /// The pairs on which the fast engine may be slower than the plain one, because its index cannot pay,
 /// each with the reason.
-const INDEX_CANNOT_PAY: [(&str, &str); 0] = [];
+const INDEX_CANNOT_PAY: [(&str, &str); 1] = [(
+    "short",
+    "clearing the heads and the filter for each pass costs more than looking at all pairs",
+)];
 
 /// A comparison is timed at least so often and for so long, but no further once it has taken very long.
 const LEAST_RUNS: usize = 3;
@@ -120,6 +124,7 @@ pub fn jobs() -> Vec<Job> {
         job("one code", [one_code.clone(), one_code.clone()]),
         job("one code, broken", [one_code, broken]),
         job("periodic", phases),
+        job("short", related(random, SHORT, CODES)),
     ];
     let worst = series::rows()
         .into_iter()
@@ -171,9 +176,9 @@ fn note(promises: &mut Promises, pair: &str, ratio: impl Fn(&Column, &Column) ->
 /// Prints every column's time of every pair, and the ratios.
 pub fn compare_columns(jobs: &mut [Job], promises: &mut Promises) {
     println!(
-        "Median time of a comparison in ms. The pairs up to periodic have {MAX_WORDS} words a side \
-         and are compared at minimum {MINIMUM}, with {CODES} codes where they are random (seed \
-         {SEED}); first search length {START}.\n"
+        "Median time of a comparison in ms. The pairs up to periodic have {MAX_WORDS} words a side, \
+         the short one {SHORT}; they are compared at minimum {MINIMUM}, with {CODES} codes where they \
+         are random (seed {SEED}); first search length {START}.\n"
     );
     let mut titles = ["Pair", "Tiles", "Covered"].map(String::from).to_vec();
     titles.extend(COLUMNS.map(|column| column.name.to_string()));

@@ -2,7 +2,7 @@
 -- Assumes nothing.
 use Rattle.rows.proofs.Walk.{Walked, walk-alike, walk-low, walk-unknown, walk-none, walk-more, walk-rises, walk-end, walk-cap}
 use Prim.Native.Nat.{_-_}
-use borrow.Author.Tests.{ltb-true, ltb-false, not-true}
+use borrow.Author.Tests.{ltb-false, not-true}
 use borrow.Author.Needs.{needs}
 use Rattle.rows.proofs.row_search.Statement.{statement}
 use Rattle.rows.proofs.row_search.Tie as tie

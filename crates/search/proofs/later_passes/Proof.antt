@@ -1,6 +1,6 @@
 -- `search::later_passes` meets its contract: at the head of each turn nothing as long as s is left, and no run is longer than the stretch.
 -- Assumes nothing.
-use borrow.Author.Tests.{leb-true, leb-false}
+use borrow.Author.Tests.{leb-false}
 use Rattle.search.proofs.Passes.{Resting, resting-none, resting-set, resting-more, resting-least, resting-short}
 use borrow.Author.Needs.{needs}
 use Rattle.search.proofs.later_passes.Statement.{statement}
