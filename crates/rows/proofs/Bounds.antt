@@ -1,7 +1,7 @@
 -- The bounds of the rows, from the last to the first. A run is at most one word longer than the run one position on, so the bound of a row is
 -- at most one more than that of the row after it.
 -- Assumes nothing.
-use Prim.Native.Nat.{ℕ, zero, suc, _+_, _-_, _*_, _^_, _≤_, _<_}
+use Prim.Native.Nat.{ℕ, zero, suc, _+_, _-_, _*_, _≤_, _<_}
 use native.Mathlib.Decide.{decLt, ℕ-discrete}
 use native.Mathlib.Omega.{arith}
 use mathlib.Core.Path.{_≡_, refl, sym, _∙_, subst}
@@ -55,12 +55,6 @@ module _ (j : Job) (ws : List ℕ) (p len : ℕ) (c : Capped j ws (p + 1) len) w
 
       most : (u : ℕ) → runAt (state j ws) p u ≤ len + 1
       most u = step u (runAt (state j ws) p u) refl
-
-  pub bound-fits : j .n ≤ 2048 → len + 1 < 2 ^ 64
-  bound-fits h = omega (arith, c .within)
-
-  pub search-within : (s : ℕ) → s ≤ len + 1 → p < j .n → p + (s - 1 + 1 - s) ≤ j .n
-  search-within s h k = omega arith
 
   pub capped-found : (s : ℕ) (f : Found) → Space j ws → 1 ≤ s → s ≤ len + 1 → Reached (drop p (state j ws .pattern)) (state j ws .text) (s - 1) (len + 1) f → Capped j ws p (f .len)
   capped-found s f space one h r = record { most = λ u. most u (decLt (f .len) (len + 1)); within = within (decLt (s - 1) (f .len)) }

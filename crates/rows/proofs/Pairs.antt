@@ -2,7 +2,7 @@
 -- it goes on beyond what was found, so those of the windows that end there are equal too. Where either pair of hashes differs, there is
 -- nothing to look for.
 -- Assumes nothing.
-use Prim.Native.Nat.{ℕ, _+_, _-_, _^_, _≤_, _<_, max}
+use Prim.Native.Nat.{ℕ, _+_, _-_, _≤_, _<_, max}
 use native.Mathlib.Decide.{decLt}
 use native.Mathlib.Omega.{arith}
 use mathlib.Core.Path.{_≡_, refl, sym, _∙_}
@@ -74,7 +74,3 @@ look-kept f g a len r e k = k ∙ go (decLt (f .len) r)
     go : Dec (f .len < r) → better f a len ≡ better f a r
     go (yes h) = let m : len ≡ r = omega (arith, e) in rw m refl
     go (no h) = sym (better-old f a len (omega (arith, e, h))) ∙ better-old f a r (omega (arith, h))
-
--- Its numbers fit.
-pub further-fits : (p s len n : ℕ) → p + (len + 1 - s) ≤ n → n ≤ 2048 → s ≤ 2048 → len + 1 < 2 ^ 64
-further-fits p s len n a b c = omega arith

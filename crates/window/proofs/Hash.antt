@@ -3,7 +3,7 @@
 -- congruence, each step may wrap.
 -- Assumes nothing.
 use Prim.Native.Nat.{ℕ, suc, _+_, _*_, _%_, _^_, _≤_, _<_, _-_}
-use native.Mathlib.Nat.{mul-le-mul, mod-lt, mod-add-mod, mul-assoc, add-mul, add-comm, add-assoc, pow-zero, pow-suc, mul-one}
+use native.Mathlib.Nat.{mul-le-mul, mod-add-mod, mul-assoc, add-mul, add-comm, add-assoc, pow-zero, pow-suc, mul-one}
 use native.Mathlib.Omega.{arith}
 use native.Mathlib.Numerals.{add-one}
 use mathlib.Core.Path.{_≡_, refl, sym, _∙_}
@@ -18,10 +18,6 @@ pub product-fits : (a b : ℕ) → a < 2 ^ 32 → b < 2 ^ 32 → a * b < 2 ^ 64
 product-fits a b h k =
     let most : a * b ≤ (2 ^ 32 - 1) * (2 ^ 32 - 1) = mul-le-mul {n₂ = 2 ^ 32 - 1} {m₂ = 2 ^ 32 - 1} (omega arith) (omega arith) in
     omega arith
-
-pub hash-below : (B : ℕ) (ws : List ℕ) → hash B ws < 2 ^ 32
-unfolding hash
-hash-below B ws = mod-lt (weigh B ws) (omega arith)
 
 -- ---- one more word
 weigh-more : (B : ℕ) (ws : List ℕ) (x : ℕ) → weigh B (ws ++ (x ∷ [])) ≡ weigh B ws * B + x
