@@ -129,7 +129,7 @@ fn first_pass(
     Passed { s, totals: sum }
 }
 
-// A later pass: nothing as long as twice its search length is left.
+// A later pass: nothing longer than twice its search length is left, so it is never begun again.
 fn later_pass(
     ws: &mut [u32],
     job: Job,
