@@ -2,37 +2,51 @@
 SHELL := /bin/bash
 .SHELLFLAGS := -euo pipefail -c
 .ONESHELL:
-.PHONY: pair test library bench check clean
+.PHONY: pair tool library test bench check clean
 
-# Builds and runs a program of tests/.
-run := cargo run --offline --quiet --manifest-path tests/Cargo.toml --target-dir target/cargo
+# Runs a command and shows what it printed only if it failed.
+define quietly
+quietly() { local log; log=$$(mktemp); "$$@" > "$$log" 2>&1 || { cat "$$log"; rm -f "$$log"; exit 1; }; rm -f "$$log"; }
+endef
 
 # Proves and builds the pair program and all that it stands on, and runs it on the worked example.
 pair:
-	@log=$$(mktemp)
-	trap 'rm -f "$$log"' EXIT
+	@$(quietly)
 	echo "Proving and building the pair program; this takes a few minutes the first time."
-	rt check pair > "$$log" 2>&1 || { cat "$$log"; exit 1; }
+	quietly rt check pair
 	target/bin/pair < crates/pair/stdin
 
-# Proves everything from nothing and runs the Rust test program; ends with the last line of `rt ci`.
+# Proves the core and writes target/library: libsigxume.a and sigxume.h, for C, and for the Rust crate in library/.
+library:
+	@$(quietly)
+	echo "Proving and building the library; this takes a few minutes the first time."
+	quietly rt staticlib capi
+	mkdir -p target/library
+	install -C -m 644 target/staticlib/libcapi.a target/library/libsigxume.a
+	install -C -m 644 c/sigxume.h target/library/sigxume.h
+
+# Builds the command-line tool, target/bin/sigxume.
+tool: library
+	@cargo build --quiet --release --package sigxume-tool
+	mkdir -p target/bin
+	install -C -m 755 target/cargo/release/sigxume target/bin/sigxume
+
+# Proves everything from nothing, then runs the tests of the library, the C example, the tool and the test program; ends with
+# the last line of `rt ci`.
 test:
 	@log=$$(mktemp)
 	trap 'rm -f "$$log"' EXIT
 	rt fmt --check
 	rt ci | tee "$$log"
-	rt staticlib capi
-	$(run) --profile checked --bin tests
+	$(MAKE) --no-print-directory tool
+	cargo test --quiet --package sigxume
+	cargo run --quiet --profile checked --bin tests
 	tail -n 1 "$$log"
-
-# Writes target/staticlib/libcapi.a, the proved functions for Rust and C.
-library:
-	@rt staticlib capi
 
 # Times the engines beside the baselines and counts their instructions, in one run; fails where an answer differs or a promise is
 # not kept. Needs valgrind.
-bench: library
-	@$(run) --release --bin benchmark
+bench: tool
+	@cargo run --quiet --release --bin benchmark
 
 # The quick loop: proves what has changed.
 check:

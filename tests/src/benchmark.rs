@@ -3,10 +3,11 @@
 pub mod counting;
 pub mod timing;
 
-use crate::core::{self, Compared, Settings};
 use crate::pairs::Pair;
 use crate::reference::{self, tile_words, workspace_words};
 use crate::wise;
+use sigxume::raw::{self, Compared};
+use sigxume::Settings;
 use std::hint::black_box;
 
 /// The first search length of the pair program, unless the minimum is larger.
@@ -25,14 +26,14 @@ pub struct Column {
 pub static PLAIN: Column = Column {
     name: "plain engine",
     compare: |first, second, minimum, _, workspace, tiles| {
-        core::compare_plain(first, second, minimum, workspace, tiles)
+        raw::compare_plain(first, second, minimum, workspace, tiles)
     },
 };
 pub static FAST: Column = Column {
     name: "fast engine",
     compare: |first, second, minimum, start, workspace, tiles| {
         let settings = hashed_by(1_024, start);
-        core::compare_fast(first, second, minimum, settings, workspace, tiles)
+        raw::compare_fast(first, second, minimum, settings, workspace, tiles)
     },
 };
 
@@ -42,7 +43,7 @@ pub static PAIR: Column = Column {
     name: "fast engine, 256 buckets",
     compare: |first, second, minimum, start, workspace, tiles| {
         let settings = hashed_by(256, start);
-        core::compare_fast(first, second, minimum, settings, workspace, tiles)
+        raw::compare_fast(first, second, minimum, settings, workspace, tiles)
     },
 };
 

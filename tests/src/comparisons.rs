@@ -7,7 +7,6 @@ pub mod mistakes;
 pub mod restarts;
 pub mod settings;
 
-use crate::core::{self, Compared};
 use crate::engine::{starts, Engine, BUCKETS, MULTIPLIERS};
 use crate::group::Group;
 use crate::known::{self, Letters, LISTING};
@@ -18,6 +17,7 @@ use crate::reference::{
     self, listing, tile_words, tiling, workspace_words, Tile, MAX_MINIMUM, MAX_WORDS,
 };
 use crate::samples::{call, NO_CALL};
+use sigxume::raw::{self, Compared};
 use std::cell::OnceCell;
 use std::fmt::Arguments;
 
@@ -210,7 +210,7 @@ pub fn known(g: &mut Group) {
         let words = known::letters(letters);
         let mut sequence = vec![0; words.len()];
         let record = [&[header], &words[..], &[trailer]].concat();
-        let read = core::read(&record, &mut sequence);
+        let read = raw::read(&record, &mut sequence);
         (sequence, read.id)
     });
     let pair = [&first[..], &second];

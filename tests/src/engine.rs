@@ -1,8 +1,9 @@
 //! The two engines, and the settings that the fast one is tried with.
 
-use crate::core::{self, Compared, Settings};
 use crate::random::Random;
 use crate::reference::{MAX_BUCKETS, MAX_MINIMUM, MAX_WORDS};
+use sigxume::raw::{self, Compared};
+use sigxume::Settings;
 use std::fmt::{self, Display, Formatter};
 
 /// The longest first search length.
@@ -67,9 +68,9 @@ impl Engine {
         tiles: &mut [u32],
     ) -> Compared {
         match self {
-            Self::Plain => core::compare_plain(first, second, minimum, workspace, tiles),
+            Self::Plain => raw::compare_plain(first, second, minimum, workspace, tiles),
             Self::Fast(settings) => {
-                core::compare_fast(first, second, minimum, settings, workspace, tiles)
+                raw::compare_fast(first, second, minimum, settings, workspace, tiles)
             }
         }
     }

@@ -1,7 +1,7 @@
 //! A group of cases: it has its own random numbers, counts its cases and reports each difference.
 
-use crate::core::{Compared, Counted, ReadAnswer};
 use crate::random::Random;
+use sigxume::raw::{Compared, Counted, ReadAnswer};
 use std::fmt::{Arguments, Debug};
 
 /// Words on both sides of a lent buffer, to see a write outside of it.

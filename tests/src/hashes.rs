@@ -1,6 +1,5 @@
 //! The list of window hashes.
 
-use crate::core;
 use crate::engine::MULTIPLIERS;
 use crate::group::Group;
 use crate::reference::{self, MAX_WORDS, ROOM, TOO_LONG, UNSOUND, WINDOW};
@@ -8,6 +7,7 @@ use crate::samples::{
     any_length, call, damages, due, fault_sets, faulty, rooms, sequence, unsound_word, with,
     NO_CALL,
 };
+use sigxume::raw;
 use std::fmt::Arguments;
 
 /// Compares the list of hashes for a multiplier and a window, in a buffer of `room` words.
@@ -23,7 +23,7 @@ fn hash_list(
         case,
         [room],
         refusal,
-        |[buffer]| core::hash_list(words, multiplier, window, buffer),
+        |[buffer]| raw::hash_list(words, multiplier, window, buffer),
         |[buffer]| reference::hash_list(words, multiplier, window, buffer),
     );
 }
@@ -47,7 +47,7 @@ pub fn known(g: &mut Group) {
     ];
     for (multiplier, count, hashes) in rows {
         let mut buffer = vec![0; hashes.len()];
-        let answer = core::hash_list(&calls[..count], multiplier, 3, &mut buffer);
+        let answer = raw::hash_list(&calls[..count], multiplier, 3, &mut buffer);
         let case = format_args!("K12 at B = {multiplier}");
         g.equal(
             case,

@@ -1,10 +1,9 @@
-//! What the test program and the benchmark share: the core's exported functions, a reference made
-//! apart from them, samples, and the groups of cases.
+//! What the test program and the benchmark share: a reference made apart from the core, samples, and the
+//! groups of cases.
 
 pub mod baselines;
 pub mod benchmark;
 pub mod comparisons;
-pub mod core;
 pub mod engine;
 pub mod group;
 pub mod hashes;

@@ -1,6 +1,5 @@
 //! Reading and writing records, and the two round trips.
 
-use crate::core::{self, Counted, ReadAnswer};
 use crate::group::Group;
 use crate::known::letters;
 use crate::random::Random;
@@ -11,6 +10,7 @@ use crate::samples::{
     any_length, call, damages, due, fault_sets, faulty, ids, rooms, sequence, sound_word,
     unsound_word, with, NO_CALL,
 };
+use sigxume::raw::{self, Counted, ReadAnswer};
 use std::fmt::Arguments;
 
 /// Lengths of sequences that are accepted.
@@ -28,7 +28,7 @@ fn read(g: &mut Group, case: Arguments, src: &[u32], room: usize, refusal: Optio
         case,
         [room],
         refusal,
-        |[buffer]| core::read(src, buffer),
+        |[buffer]| raw::read(src, buffer),
         |[buffer]| reference::read(src, buffer),
     );
 }
@@ -46,7 +46,7 @@ fn write(
         case,
         [room],
         refusal,
-        |[buffer]| core::write(id, words, buffer),
+        |[buffer]| raw::write(id, words, buffer),
         |[buffer]| reference::write(id, words, buffer),
     );
 }
@@ -83,7 +83,7 @@ pub fn worked(g: &mut Group) {
         let count = words.len();
         let whole = [&[first], &words[..], &[last]].concat();
         let mut buffer = vec![0; count];
-        let answer = core::read(&whole, &mut buffer);
+        let answer = raw::read(&whole, &mut buffer);
         let expected = ReadAnswer {
             refusal: 0,
             id: id.into(),
@@ -93,7 +93,7 @@ pub fn worked(g: &mut Group) {
         g.equal(format_args!("read {name}"), answer, expected);
         g.equal(format_args!("words of {name}"), &buffer, &words);
         let mut buffer = vec![0; count + 2];
-        let answer = core::write(id, &words, &mut buffer);
+        let answer = raw::write(id, &words, &mut buffer);
         let expected = Counted {
             refusal: 0,
             count: count as u32 + 2,
@@ -362,16 +362,16 @@ pub fn round_trips(g: &mut Group) {
     for (number, whole) in records.iter().enumerate() {
         let count = whole.len() - 2;
         let mut words = vec![0; count];
-        let read = core::read(whole, &mut words);
+        let read = raw::read(whole, &mut words);
         let mut written = vec![0; count + 2];
-        core::write(read.id as u16, &words, &mut written);
+        raw::write(read.id as u16, &words, &mut written);
         g.equal(format_args!("record {number} written"), &written, whole);
 
         let (id, words) = (g.random.half(), sequence(&mut g.random, count));
         let mut written = vec![0; count + 2];
-        let answer = core::write(id, &words, &mut written);
+        let answer = raw::write(id, &words, &mut written);
         let mut back = vec![0; count];
-        let read = core::read(&written, &mut back);
+        let read = raw::read(&written, &mut back);
         let expected = ReadAnswer {
             refusal: 0,
             id: id.into(),

@@ -2,8 +2,9 @@
 //! core. The comments quote 01; a sequence is its strand, a record its strip, a header its heading,
 //! a trailer its closing word and an id its fish number.
 
-use crate::core::{Compared, Counted, ReadAnswer, Settings};
 use crate::engine::Engine;
+use sigxume::raw::{Compared, Counted, ReadAnswer};
+use sigxume::Settings;
 use std::borrow::Borrow;
 
 /// "A strand is 0 to 2,048 words [..]."

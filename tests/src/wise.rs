@@ -20,8 +20,8 @@
 //!
 //! Every comparison allocates what it needs, as the program of 000 did for every run.
 
-use crate::core::Compared;
 use crate::reference::{accept, all_sound, Tile, MAX_WORDS};
+use sigxume::raw::Compared;
 use std::mem::take;
 use std::ops::{ControlFlow, Range};
 

@@ -1,12 +1,12 @@
 //! The match of two words, and sound sequences.
 
-use crate::core;
 use crate::group::Group;
 use crate::random::Random;
 use crate::reference;
 use crate::samples::{
     call, damages, sequence, sound_word, unsound_word, with, NO_CALL, UNSOUND_WORDS,
 };
+use sigxume::raw;
 
 /// Words around each boundary of a kind and of a field, with the unsound words of the samples.
 fn boundary_words() -> Vec<u32> {
@@ -36,7 +36,7 @@ fn compare_match(g: &mut Group, a: u32, b: u32) {
     for (a, b) in [(a, b), (b, a)] {
         g.equal(
             format_args!("{a:#x} and {b:#x}"),
-            core::matches(a, b),
+            raw::matches(a, b),
             reference::matches(a, b),
         );
     }
@@ -56,7 +56,7 @@ pub fn match_boundaries(g: &mut Group) {
 pub fn match_codes(g: &mut Group) {
     for code in 0..=u16::MAX {
         let word = call(code);
-        g.equal(format_args!("code {code}"), core::matches(word, word), true);
+        g.equal(format_args!("code {code}"), raw::matches(word, word), true);
         compare_match(g, word, call(code.wrapping_add(1)));
         compare_match(g, word, NO_CALL);
         for bit in 0..32 {
@@ -96,18 +96,18 @@ pub fn sound_words(g: &mut Group) {
     for word in words {
         g.equal(
             format_args!("{word:#x}"),
-            core::all_sound(&[word]),
+            raw::all_sound(&[word]),
             reference::is_sound(word),
         );
     }
     for word in UNSOUND_WORDS {
-        g.equal(format_args!("{word:#x}"), core::all_sound(&[word]), false);
+        g.equal(format_args!("{word:#x}"), raw::all_sound(&[word]), false);
     }
 }
 
 /// Whole sequences, sound or with one unsound word at each position.
 pub fn sound_sequences(g: &mut Group) {
-    let both = |words: &[u32]| [core::all_sound(words), reference::all_sound(words)];
+    let both = |words: &[u32]| [raw::all_sound(words), reference::all_sound(words)];
     for length in [0, 1, 2, 20, 2_047, 2_048, 2_049, 10_000] {
         let sound = sequence(&mut g.random, length);
         g.equal(format_args!("{length} words"), both(&sound), [true; 2]);

@@ -5,9 +5,9 @@
 use super::{
     exponent, head, rounded, row, Column, Job, Promises, FAST, LITERAL, PAIR, PLAIN, WISE,
 };
-use crate::core::Compared;
 use crate::series::{self, Row};
 use crate::wise;
+use sigxume::raw::Compared;
 use std::fs;
 use std::io;
 use std::path::Path;

@@ -1,5 +1,11 @@
-//! The core's exported functions. This is the whole boundary: the program has no other foreign
-//! function and no other unsafe code. A slice is passed as a pointer and then a length.
+//! The core's exported functions as they are: an answer is a struct of numbers, the first of which is
+//! the refusal's, 0 for none. The functions at the top of this crate say the same by a [`Result`].
+//!
+//! This is the whole boundary: nothing else in this repository's Rust is a foreign function or unsafe.
+//! A slice is passed as a pointer and then a length in words. The core is proved to touch nothing else,
+//! whatever the words and the lengths are, so these functions are safe for all arguments.
+
+use crate::Settings;
 
 /// The answer of reading: a refusal's number and zeros, or 0 and what was read.
 #[repr(C)]
@@ -143,15 +149,6 @@ pub fn compare_plain(
             tiles.len(),
         )
     }
-}
-
-/// How the fast engine searches. The answer does not depend on it.
-#[derive(Clone, Copy, Debug, PartialEq, Eq)]
-pub struct Settings {
-    pub multiplier: u32,
-    pub buckets: u32,
-    /// The first search length.
-    pub start: u32,
 }
 
 /// Compares two sequences by the fast engine; the tiles go to the start of `tiles`.

@@ -1,0 +1,79 @@
+//! Comparing many pairs with the same buffers.
+
+use crate::{
+    compare, tile_words, tiles, workspace_words, Comparison, Refusal, Settings, Tile, MAX_WORDS,
+};
+use std::ops::Deref;
+
+/// Compares pairs of sequences, with buffers of its own that grow as needed and serve from one comparison
+/// to the next. One for each thread is right.
+///
+/// ```
+/// use sigxume::{Comparer, Symbol};
+///
+/// let words = [1, 2, 3].map(|code| Symbol::Call(code).word());
+/// let mut comparer = Comparer::new();
+/// let scores = [0, 1, 2, 3].map(|n| comparer.compare(&words, &words[..n], 1).unwrap().score);
+/// assert_eq!(scores, [0, 500, 800, 1_000]);
+/// ```
+#[derive(Clone, Debug, Default)]
+pub struct Comparer {
+    workspace: Vec<u32>,
+    tiles: Vec<u32>,
+}
+
+/// A comparison's answer with its tiles, as long as the [`Comparer`] is not used again.
+#[derive(Clone, Copy, Debug, PartialEq, Eq)]
+pub struct Tiling<'a> {
+    answer: Comparison,
+    words: &'a [u32],
+}
+
+impl Comparer {
+    /// One with empty buffers.
+    pub fn new() -> Self {
+        Self::default()
+    }
+
+    /// Compares two sequences by the fast engine with the settings that serve at this minimum. Refused, in
+    /// this order: [`TooLong`](Refusal::TooLong), [`Unsound`](Refusal::Unsound),
+    /// [`Minimum`](Refusal::Minimum).
+    pub fn compare(
+        &mut self,
+        first: &[u32],
+        second: &[u32],
+        minimum: u32,
+    ) -> Result<Tiling<'_>, Refusal> {
+        // A longer sequence is refused, so there is no need to make room for it.
+        let [n, m] = [first, second].map(|sequence| sequence.len().min(MAX_WORDS));
+        let workspace = part(&mut self.workspace, workspace_words(n, m));
+        let buffer = part(&mut self.tiles, tile_words(n, m, minimum));
+        let settings = Settings::for_minimum(minimum);
+        let answer = compare(first, second, minimum, settings, workspace, buffer)?;
+        let words = &buffer[..3 * answer.tiles];
+        Ok(Tiling { answer, words })
+    }
+}
+
+impl Tiling<'_> {
+    /// The tiles in the order laid, so from the longest to the shortest.
+    pub fn tiles(&self) -> impl ExactSizeIterator<Item = Tile> + '_ {
+        tiles(self.words)
+    }
+}
+
+impl Deref for Tiling<'_> {
+    type Target = Comparison;
+
+    fn deref(&self) -> &Comparison {
+        &self.answer
+    }
+}
+
+/// The first so many words of a buffer, which grows where it is shorter.
+fn part(buffer: &mut Vec<u32>, words: usize) -> &mut [u32] {
+    if buffer.len() < words {
+        buffer.resize(words, 0);
+    }
+    &mut buffer[..words]
+}

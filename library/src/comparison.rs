@@ -1,0 +1,165 @@
+//! Comparing two sequences with the caller's buffers.
+
+use crate::{raw, Refusal};
+
+/// How the fast engine searches. The answer does not depend on it, only the time.
+#[derive(Clone, Copy, Debug, PartialEq, Eq)]
+pub struct Settings {
+    /// Of the rolling hash; any number.
+    pub multiplier: u32,
+    /// From 1 to 1,024.
+    pub buckets: u32,
+    /// The first search length, from the minimum to 2,048.
+    pub start: u32,
+}
+
+impl Settings {
+    /// The settings that serve at a minimum: multiplier 257, 1,024 buckets, and first search length 20,
+    /// or the minimum if larger.
+    pub const fn for_minimum(minimum: u32) -> Self {
+        Self {
+            multiplier: 257,
+            buckets: 1_024,
+            start: if minimum > 20 { minimum } else { 20 },
+        }
+    }
+}
+
+/// What a comparison answers.
+#[derive(Clone, Copy, Debug, PartialEq, Eq)]
+pub struct Comparison {
+    /// The number of tiles; each is three words at the start of the tile buffer.
+    pub tiles: usize,
+    /// The sum of their lengths.
+    pub covered: usize,
+    /// 2,000 × covered divided by the sum of both lengths, rounded down; 0 for two empty sequences.
+    pub score: u32,
+}
+
+impl Comparison {
+    fn of(answer: raw::Compared) -> Result<Self, Refusal> {
+        Refusal::check(answer.refusal)?;
+        Ok(Self {
+            tiles: answer.tiles as usize,
+            covered: answer.covered as usize,
+            score: answer.score,
+        })
+    }
+}
+
+/// A stretch of words that is the same in both sequences.
+#[derive(Clone, Copy, Debug, PartialEq, Eq)]
+pub struct Tile {
+    /// Where it starts in the first sequence, counted from 0.
+    pub first: usize,
+    /// Where it starts in the second.
+    pub second: usize,
+    /// Its words.
+    pub length: usize,
+}
+
+impl Tile {
+    /// How much further on it lies in the second sequence: from -2,047 to 2,047.
+    pub const fn shift(self) -> i32 {
+        self.second as i32 - self.first as i32
+    }
+}
+
+/// The tiles in the words of a tile buffer, in the order laid: a tile is three words.
+///
+/// ```
+/// let tiles = Vec::from_iter(sigxume::tiles(&[1, 7, 5, 6, 3, 1]));
+/// assert_eq!(tiles[0].length, 5);
+/// assert_eq!(tiles[1].shift(), -3);
+/// ```
+pub fn tiles(words: &[u32]) -> impl ExactSizeIterator<Item = Tile> + '_ {
+    let (tiles, _) = words.as_chunks();
+    tiles.iter().map(|&tile| {
+        let [first, second, length] = tile.map(|word: u32| word as usize);
+        Tile {
+            first,
+            second,
+            length,
+        }
+    })
+}
+
+/// The words that a comparison of sequences of these lengths asks of its workspace: four for each word of
+/// both.
+pub const fn workspace_words(first: usize, second: usize) -> usize {
+    first.saturating_add(second).saturating_mul(4)
+}
+
+/// The words that a comparison of sequences of these lengths asks of its tile buffer: three for each tile
+/// that there can be. For minimum 0, which is refused, this is 0.
+pub const fn tile_words(first: usize, second: usize, minimum: u32) -> usize {
+    let shorter = if first < second { first } else { second };
+    match shorter.checked_div(minimum as usize) {
+        Some(tiles) => tiles.saturating_mul(3),
+        None => 0,
+    }
+}
+
+/// Compares two sequences by the fast engine, Running Karp-Rabin greedy string tiling. The tiles, each
+/// of at least `minimum` words, go to the start of `tiles`, whose other words keep their values; the whole
+/// workspace is zero afterwards, whatever it held.
+///
+/// Refused, in this order: [`TooLong`](Refusal::TooLong), [`Unsound`](Refusal::Unsound),
+/// [`Minimum`](Refusal::Minimum), [`Buckets`](Refusal::Buckets),
+/// [`SearchLength`](Refusal::SearchLength), [`Workspace`](Refusal::Workspace),
+/// [`TileBuffer`](Refusal::TileBuffer). Both buffers are then as they were.
+///
+/// ```
+/// use sigxume::{compare, tile_words, tiles, workspace_words, Settings, Symbol, Tile};
+///
+/// let minimum = 2;
+/// let first = [1, 2, 3, 4, 5].map(|code| Symbol::Call(code).word());
+/// let second = [3, 4, 5, 1, 2].map(|code| Symbol::Call(code).word());
+///
+/// let mut workspace = vec![0; workspace_words(first.len(), second.len())];
+/// let mut buffer = vec![0; tile_words(first.len(), second.len(), minimum)];
+/// let settings = Settings::for_minimum(minimum);
+/// let answer = compare(&first, &second, minimum, settings, &mut workspace, &mut buffer)?;
+/// assert_eq!((answer.tiles, answer.covered, answer.score), (2, 5, 1_000));
+///
+/// let laid = Vec::from_iter(tiles(&buffer[..3 * answer.tiles]));
+/// assert_eq!(laid[0], Tile { first: 2, second: 0, length: 3 });
+/// assert_eq!(laid[1], Tile { first: 0, second: 3, length: 2 });
+/// # Ok::<(), sigxume::Refusal>(())
+/// ```
+pub fn compare(
+    first: &[u32],
+    second: &[u32],
+    minimum: u32,
+    settings: Settings,
+    workspace: &mut [u32],
+    tiles: &mut [u32],
+) -> Result<Comparison, Refusal> {
+    Comparison::of(raw::compare_fast(
+        first, second, minimum, settings, workspace, tiles,
+    ))
+}
+
+/// The same by the plain engine, which uses no hash and is slower but for short sequences. It is proved to give
+/// the same answer and the same tiles as [`compare`]. Refused as there, without
+/// [`Buckets`](Refusal::Buckets) and [`SearchLength`](Refusal::SearchLength).
+///
+/// ```
+/// use sigxume::{compare_plain, tile_words, workspace_words, Symbol};
+///
+/// let words = [7; 4].map(|code| Symbol::Call(code).word());
+/// let mut workspace = vec![0; workspace_words(4, 2)];
+/// let mut tiles = vec![0; tile_words(4, 2, 1)];
+/// let answer = compare_plain(&words, &words[..2], 1, &mut workspace, &mut tiles)?;
+/// assert_eq!((answer.tiles, answer.covered, answer.score), (1, 2, 666));
+/// # Ok::<(), sigxume::Refusal>(())
+/// ```
+pub fn compare_plain(
+    first: &[u32],
+    second: &[u32],
+    minimum: u32,
+    workspace: &mut [u32],
+    tiles: &mut [u32],
+) -> Result<Comparison, Refusal> {
+    Comparison::of(raw::compare_plain(first, second, minimum, workspace, tiles))
+}

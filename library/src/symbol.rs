@@ -1,0 +1,75 @@
+//! Words: calls and the no-call.
+
+use crate::{raw, Refusal};
+
+/// What a word of a sequence says.
+///
+/// ```
+/// use sigxume::{Refusal, Symbol};
+///
+/// assert_eq!(Symbol::Call(7).word(), 0x4000_0007);
+/// assert_eq!(Symbol::from_word(0x8000_0000), Ok(Symbol::NoCall));
+/// assert_eq!(Symbol::from_word(7), Err(Refusal::Unsound));
+/// ```
+#[derive(Clone, Copy, Debug, PartialEq, Eq, Hash, PartialOrd, Ord)]
+pub enum Symbol {
+    /// The call of a motif code.
+    Call(u16),
+    /// No code was called. It matches nothing, another no-call included.
+    NoCall,
+}
+
+impl Symbol {
+    /// The symbol's word.
+    pub const fn word(self) -> u32 {
+        match self {
+            Self::Call(code) => 1 << 30 | code as u32,
+            Self::NoCall => 2 << 30,
+        }
+    }
+
+    /// The symbol of a word, or [`Refusal::Unsound`] where the core says that it is none.
+    pub fn from_word(word: u32) -> Result<Self, Refusal> {
+        if !all_sound(&[word]) {
+            Err(Refusal::Unsound)
+        } else if word == Self::NoCall.word() {
+            Ok(Self::NoCall)
+        } else {
+            // The low 16 bits of a call are its code.
+            Ok(Self::Call(word as u16))
+        }
+    }
+}
+
+impl From<Symbol> for u32 {
+    fn from(symbol: Symbol) -> Self {
+        symbol.word()
+    }
+}
+
+/// Whether two words match: both are calls with equal codes. Any two words may be given.
+///
+/// ```
+/// use sigxume::{words_match, Symbol};
+///
+/// let [a, b] = [1, 2].map(|code| Symbol::Call(code).word());
+/// let no_call = Symbol::NoCall.word();
+/// assert!(words_match(a, a));
+/// assert!(!words_match(a, b));
+/// assert!(!words_match(no_call, no_call));
+/// ```
+pub fn words_match(a: u32, b: u32) -> bool {
+    raw::matches(a, b)
+}
+
+/// Whether each word is a call or the no-call.
+///
+/// ```
+/// use sigxume::{all_sound, Symbol};
+///
+/// assert!(all_sound(&[Symbol::Call(65_535).word(), Symbol::NoCall.word()]));
+/// assert!(!all_sound(&[Symbol::Call(1).word(), 0]));
+/// ```
+pub fn all_sound(words: &[u32]) -> bool {
+    raw::all_sound(words)
+}
