@@ -8,6 +8,7 @@ pub mod engine;
 pub mod group;
 pub mod hashes;
 pub mod known;
+pub mod library;
 pub mod pairs;
 pub mod program;
 pub mod random;

@@ -4,7 +4,7 @@
 
 use sigxume_tests::comparisons::{self, laws, limits, mistakes, restarts, settings};
 use sigxume_tests::group::Group;
-use sigxume_tests::{baselines, hashes, known, program, records, words};
+use sigxume_tests::{baselines, hashes, known, library, program, records, words};
 use std::process::ExitCode;
 use std::thread;
 
@@ -12,7 +12,7 @@ use std::thread;
 type Row = (&'static str, u64, fn(&mut Group));
 
 #[rustfmt::skip]
-const GROUPS: [Row; 60] = [
+const GROUPS: [Row; 67] = [
     ("reference: known pairs", 1, known::pairs),
     ("reference: known windows", 2, known::windows),
     ("reference: worked example", 3, known::example),
@@ -64,6 +64,13 @@ const GROUPS: [Row; 60] = [
     ("restart: every length", 48, restarts::every_length),
     ("restart: a shorter block first", 49, restarts::shorter_first),
     ("restart: again and again", 50, restarts::in_a_row),
+    ("library: refusals", 61, library::refusals),
+    ("library: symbols", 62, library::symbols),
+    ("library: one record", 63, library::one_record),
+    ("library: records in a row", 64, library::rows),
+    ("library: comparisons", 65, library::comparisons),
+    ("library: one comparer", 66, library::comparer),
+    ("library: hashes", 67, library::hashes),
     ("program: known pairs", 51, program::known),
     ("program: random pairs", 52, program::random),
     ("program: larger pairs", 53, program::larger),

@@ -1,0 +1,252 @@
+//! The Rust library over the core: its results, its sizes of buffers, its words for refusals.
+
+use crate::engine::Engine;
+use crate::group::Group;
+use crate::pairs::any_pair;
+use crate::random::Random;
+use crate::reference::{self, record, tiling, MAX_WORDS};
+use crate::samples::{any_length, call, faulty, ids, sequence, sound_word, unsound_word, NO_CALL};
+use sigxume::{
+    bytes_of_words, compare, compare_plain, hash_list, hash_words, read, record_words, records,
+    tile_words, tiles, words_match, words_of_bytes, workspace_words, write, Comparer, Comparison,
+    Entry, Refusal, Settings, Symbol, Tile,
+};
+
+/// A result with the refusal's number in its place.
+type Numbered<T> = Result<T, u32>;
+
+fn numbered<T>(result: Result<T, Refusal>) -> Numbered<T> {
+    result.map_err(Refusal::number)
+}
+
+/// What the reference answers, with the refusal's number where there is one.
+fn expected<T>(refusal: u32, answer: T) -> Numbered<T> {
+    match refusal {
+        0 => Ok(answer),
+        number => Err(number),
+    }
+}
+
+/// A buffer of random words that is one short, exact or longer.
+fn lent(random: &mut Random, needed: usize) -> Vec<u32> {
+    let room = random.pick(&[needed.saturating_sub(1), needed, needed, needed + 3]);
+    random.words(room)
+}
+
+/// Every refusal has its number and says it, with words of its own.
+pub fn refusals(g: &mut Group) {
+    let table = Refusal::ALL.map(|refusal| (refusal.number(), refusal.to_string()));
+    for (at, (number, text)) in table.iter().enumerate() {
+        let case = format_args!("refusal {number}, {text}");
+        g.equal(case, *number as usize, at + 1);
+        g.equal(case, text.ends_with(&format!(" (refusal {number})")), true);
+        let others = table.iter().filter(|(_, other)| other == text).count();
+        g.equal(case, others, 1);
+    }
+}
+
+/// Symbols of every code, and words that are none.
+pub fn symbols(g: &mut Group) {
+    for code in 0..=u16::MAX {
+        let symbol = Symbol::Call(code);
+        let case = format_args!("code {code}");
+        g.equal(case, symbol.word(), call(code));
+        g.equal(case, Symbol::from_word(call(code)), Ok(symbol));
+    }
+    let no_call = Symbol::NoCall.word();
+    g.equal(format_args!("the no-call"), no_call, NO_CALL);
+    let back = Symbol::from_word(NO_CALL);
+    g.equal(format_args!("the no-call"), back, Ok(Symbol::NoCall));
+    for _ in 0..20_000 {
+        let word = unsound_word(&mut g.random);
+        let case = format_args!("{word:#x}");
+        g.equal(case, Symbol::from_word(word), Err(Refusal::Unsound));
+        let other = sound_word(&mut g.random);
+        let matched = words_match(word, other);
+        g.equal(case, matched, reference::matches(word, other));
+    }
+}
+
+/// Reading and writing, accepted and refused, with buffers around the size that the library names.
+pub fn one_record(g: &mut Group) {
+    for _ in 0..4_000 {
+        let random = &mut g.random;
+        let length = any_length(random);
+        let (long, unsound) = (random.one_in(12), length > 0 && random.one_in(6));
+        let words = faulty(random, length, long, unsound);
+        let table = ids(random);
+        let id = random.pick(&table);
+        let mut buffer = lent(random, record_words(words.len()));
+        let mut left = buffer.clone();
+        let answer = reference::write(id, &words, &mut left);
+        let case = format_args!("fish {id}, {} words", words.len());
+        let written = numbered(write(id, &words, &mut buffer));
+        g.equal(
+            case,
+            written,
+            expected(answer.refusal, answer.count as usize),
+        );
+        g.equal(case, &buffer, &left);
+
+        let random = &mut g.random;
+        let mut whole = record(id, &sequence(random, length));
+        match random.below(4) {
+            0 => whole.truncate(random.below(whole.len() + 1)),
+            1 => {
+                let at = random.below(whole.len());
+                whole[at] ^= random.bit();
+            }
+            _ => whole.extend(random.words(2)),
+        }
+        let mut buffer = lent(random, length);
+        let mut left = buffer.clone();
+        let answer = reference::read(&whole, &mut left);
+        let back = numbered(read(&whole, &mut buffer));
+        let back = back.map(|back| (back.id.into(), back.count, back.used));
+        let due = (answer.id, answer.count as usize, answer.used as usize);
+        let case = format_args!("fish {id}, {length} words, read");
+        g.equal(case, back, expected(answer.refusal, due));
+        g.equal(case, &buffer, &left);
+    }
+}
+
+/// Records in a row, some of them damaged: all up to the first that is refused.
+pub fn rows(g: &mut Group) {
+    for number in 0..2_000 {
+        let random = &mut g.random;
+        let mut words = Vec::new();
+        for _ in 0..random.below(5) {
+            let (id, length) = (random.half(), random.below(30));
+            words.extend(record(id, &sequence(random, length)));
+        }
+        if !words.is_empty() && random.one_in(2) {
+            let at = random.below(words.len());
+            words[at] ^= random.bit();
+        }
+        let mut rest = &words[..];
+        let mut due = Vec::new();
+        while !rest.is_empty() {
+            let mut sequence = vec![0; MAX_WORDS];
+            let answer = reference::read(rest, &mut sequence);
+            sequence.truncate(answer.count as usize);
+            let entry = Entry {
+                at: words.len() - rest.len(),
+                id: answer.id as u16,
+                sequence,
+            };
+            due.push(expected(answer.refusal, entry));
+            rest = match answer.refusal {
+                0 => &rest[answer.used as usize..],
+                _ => &[],
+            };
+        }
+        let result = Vec::from_iter(records(&words).map(numbered));
+        g.equal(format_args!("row {number}"), result, due);
+        let (back, rest) = (words_of_bytes(&bytes_of_words(&words)).0, &[0u8; 3]);
+        g.equal(format_args!("bytes of row {number}"), &back, &words);
+        let cut = [&bytes_of_words(&words)[..], rest].concat();
+        let case = format_args!("row {number} and three bytes");
+        g.equal(case, words_of_bytes(&cut), (words, &rest[..]));
+    }
+}
+
+/// Comparisons by both engines, with buffers around the sizes that the library names.
+pub fn comparisons(g: &mut Group) {
+    for number in 0..6_000 {
+        let random = &mut g.random;
+        let codes = random.pick(&[1, 2, 5, 40]);
+        let [first, second] = any_pair(random, 40, codes);
+        let minimum = random.pick(&[0, 1, 1, 2, 3, 8, 256, 257]);
+        let settings = match Engine::any_fast(random, minimum, first.len()) {
+            Engine::Fast(settings) if random.one_in(2) => settings,
+            _ => Settings::for_minimum(minimum),
+        };
+        let (n, m) = (first.len(), second.len());
+        let rooms = [workspace_words(n, m), tile_words(n, m, minimum)];
+        let buffers = rooms.map(|needed| lent(random, needed));
+        let case = format_args!("pair {number}, {n} and {m} words, minimum {minimum}");
+        for engine in [Engine::Plain, Engine::Fast(settings)] {
+            let [mut workspace, mut laid] = buffers.clone();
+            let [mut left, mut due] = buffers.clone();
+            let pair = [&first[..], &second[..]];
+            let listed = || tiling(&first, &second, minimum as usize);
+            let answer = reference::compare(engine, pair, minimum, listed, &mut left, &mut due);
+            let result = match engine {
+                Engine::Plain => compare_plain(&first, &second, minimum, &mut workspace, &mut laid),
+                Engine::Fast(settings) => compare(
+                    &first,
+                    &second,
+                    minimum,
+                    settings,
+                    &mut workspace,
+                    &mut laid,
+                ),
+            };
+            let due_result = Comparison {
+                tiles: answer.tiles as usize,
+                covered: answer.covered as usize,
+                score: answer.score,
+            };
+            g.equal(case, numbered(result), expected(answer.refusal, due_result));
+            g.equal(case, [workspace, laid], [left, due]);
+        }
+    }
+}
+
+/// One comparer over many pairs: no comparison sees what an earlier one left.
+pub fn comparer(g: &mut Group) {
+    let mut comparer = Comparer::new();
+    for number in 0..4_000 {
+        let random = &mut g.random;
+        let (longest, codes) = (random.pick(&[5, 40, 120]), random.pick(&[2, 5, 40]));
+        let [mut first, second] = any_pair(random, longest, codes);
+        if random.one_in(20) {
+            let long = random.one_in(2);
+            first = faulty(random, 10, long, true);
+        }
+        let minimum = random.pick(&[0, 1, 1, 2, 3, 8, 257]);
+        let [mut workspace, mut left] = [vec![0; 20_000], vec![0; 20_000]];
+        let engine = Engine::Fast(Settings::for_minimum(minimum));
+        let pair = [&first[..], &second[..]];
+        let listed = || tiling(&first, &second, minimum as usize);
+        let answer = reference::compare(engine, pair, minimum, listed, &mut workspace, &mut left);
+        let laid = Vec::from_iter(tiles(&left[..3 * answer.tiles as usize]));
+        let due = (laid, answer.covered as usize, answer.score);
+        let result = comparer.compare(&first, &second, minimum);
+        let result = result.map(|it| (Vec::from_iter(it.tiles()), it.covered, it.score));
+        let case = format_args!("pair {number}, minimum {minimum}");
+        g.equal(case, numbered(result), expected(answer.refusal, due));
+    }
+    let ends = [(0, 2_047, 2_047), (2_047, 0, -2_047), (9, 9, 0)];
+    for (first, second, shift) in ends {
+        let tile = Tile {
+            first,
+            second,
+            length: 1,
+        };
+        g.equal(format_args!("shift of {tile:?}"), tile.shift(), shift);
+    }
+}
+
+/// The list of hashes, with buffers around the size that the library names.
+pub fn hashes(g: &mut Group) {
+    for _ in 0..3_000 {
+        let random = &mut g.random;
+        let length = random.below(40);
+        let (long, unsound) = (random.one_in(20), length > 0 && random.one_in(8));
+        let words = faulty(random, length, long, unsound);
+        let window = random.pick(&[0, 1, 2, 3, 20, 39, 40, 41, 2_048, 2_049, u32::MAX]);
+        let multiplier = random.pick(&[0, 1, 257, u32::MAX]);
+        let mut buffer = lent(random, hash_words(words.len(), window));
+        let mut left = buffer.clone();
+        let answer = reference::hash_list(&words, multiplier, window, &mut left);
+        let result = numbered(hash_list(&words, multiplier, window, &mut buffer));
+        let case = format_args!("{} words, window {window}", words.len());
+        g.equal(
+            case,
+            result,
+            expected(answer.refusal, answer.count as usize),
+        );
+        g.equal(case, buffer, left);
+    }
+}
