@@ -1,6 +1,7 @@
 //! What the tables of the benchmark share: the columns, the comparisons, the promises, Markdown.
 
 pub mod counting;
+pub mod matrix;
 pub mod timing;
 
 use crate::pairs::Pair;

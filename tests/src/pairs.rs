@@ -113,20 +113,40 @@ pub fn any_pair(random: &mut Random, longest: usize, codes: u16) -> Pair {
     }
 }
 
-/// Two sequences of one length: the second is a copy of the first in which 1 word in 20 is replaced
-/// and some blocks of up to a sixteenth of the whole are moved.
-pub fn related(random: &mut Random, length: usize, codes: u16) -> Pair {
-    let first = calls(random, length, codes);
-    let mut second = first.clone();
-    for word in &mut second {
+/// A copy in which 1 word in 20 is replaced and some blocks of up to a sixteenth of the whole are moved.
+pub fn relative(random: &mut Random, words: &[u32], codes: u16) -> Vec<u32> {
+    let mut copy = words.to_vec();
+    for word in &mut copy {
         if random.one_in(20) {
             *word = letter(random, codes);
         }
     }
     for _ in 0..8 {
-        move_block(random, &mut second, length / 16);
+        move_block(random, &mut copy, words.len() / 16);
     }
+    copy
+}
+
+/// Two sequences of one length: the second is a relative of the first.
+pub fn related(random: &mut Random, length: usize, codes: u16) -> Pair {
+    let first = calls(random, length, codes);
+    let second = relative(random, &first, codes);
     [first, second]
+}
+
+/// Sequences of one length in families: the members of one are relatives of the same sequence.
+pub fn families(
+    random: &mut Random,
+    [families, members]: [usize; 2],
+    length: usize,
+    codes: u16,
+) -> Vec<Vec<u32>> {
+    let mut all = Vec::new();
+    for _ in 0..families {
+        let founder = calls(random, length, codes);
+        all.extend((0..members).map(|_| relative(random, &founder, codes)));
+    }
+    all
 }
 
 /// Two sequences of one length that have nothing to do with one another.

@@ -1,9 +1,9 @@
-//! Measures the core's engines beside baselines, in one run: their time, and their instructions on the
-//! strings of Wise's paper. First all of them must answer alike, word for word; then the tables are
+//! Measures the core's engines beside baselines, in one run: their time, the time of the tool's matrix, and
+//! their instructions on the strings of Wise's paper. First all of them must answer alike, word for word; then the tables are
 //! printed, and what was promised of them. The exit status is 1 where an answer differs or a promise
 //! is not kept.
 
-use sigxume_tests::benchmark::{counting, timing, Promises};
+use sigxume_tests::benchmark::{counting, matrix, timing, Promises};
 use std::process::ExitCode;
 
 /// Everything in order; whether all answers agree and all promises are kept.
@@ -17,6 +17,7 @@ fn measure() -> Result<bool, String> {
     let promises = &mut Promises::default();
     timing::compare_columns(&mut jobs, promises);
     timing::grow();
+    matrix::compare_matrix(promises).map_err(|error| error.to_string())?;
     counting::compare_counts(promises).map_err(|error| error.to_string())?;
     println!("\nPromises:\n");
     Ok(promises.report())

@@ -1,0 +1,189 @@
+//! The tool's matrix beside the comparisons that it makes: what the files, the threads and the table cost.
+
+use super::{head, rounded, row, Promises};
+use crate::pairs::families;
+use crate::program::bytes;
+use crate::random::Random;
+use crate::reference::{record, MAX_WORDS};
+use sigxume::Comparer;
+use std::io::Write;
+use std::path::{Path, PathBuf};
+use std::process::{Command, Stdio};
+use std::sync::atomic::{AtomicUsize, Ordering};
+use std::time::Instant;
+use std::{env, fs, io, process, thread};
+
+const TOOL: &str = concat!(env!("CARGO_MANIFEST_DIR"), "/../target/bin/sigxume");
+
+const SEED: u64 = 1;
+const FAMILIES: [usize; 2] = [8, 8];
+const CODES: u16 = 40;
+const MINIMUM: u32 = 8;
+
+/// Each row is timed so often; the rows take turns.
+const RUNS: usize = 9;
+
+/// The matrix may take so much longer than its comparisons on the same number of threads, and must keep so
+/// much of every core busy.
+const MOST_COST: f64 = 1.15;
+const LEAST_CORES: f64 = 0.9;
+
+/// A time on the clock and on the processors, in seconds.
+#[derive(Clone, Copy)]
+struct Times {
+    clock: f64,
+    processors: f64,
+}
+
+/// The scores of all pairs, by so many threads that take the next pair in turn, and the time.
+fn compare_all(sequences: &[Vec<u32>], threads: usize) -> (Vec<u32>, f64) {
+    let pairs = Vec::from_iter(
+        (0..sequences.len()).flat_map(|i| (i + 1..sequences.len()).map(move |j| (i, j))),
+    );
+    let next = AtomicUsize::new(0);
+    let start = Instant::now();
+    let mut scores = thread::scope(|scope| {
+        let work = || {
+            let mut comparer = Comparer::new();
+            let mut scores = Vec::new();
+            while let Some(&(i, j)) = pairs.get(next.fetch_add(1, Ordering::Relaxed)) {
+                let tiling = comparer.compare(&sequences[i], &sequences[j], MINIMUM);
+                scores.push(((i, j), tiling.expect("an accepted pair").score));
+            }
+            scores
+        };
+        let running = Vec::from_iter((0..threads).map(|_| scope.spawn(work)));
+        let done = running.into_iter().map(|it| it.join().expect("it ends"));
+        Vec::from_iter(done.flatten())
+    });
+    let time = start.elapsed().as_secs_f64();
+    scores.sort_unstable();
+    (scores.into_iter().map(|(_, score)| score).collect(), time)
+}
+
+/// The table that the tool writes, and its times as the shell measures them.
+fn run_tool(file: &Path, threads: usize) -> io::Result<(String, Times)> {
+    let script = "TIMEFORMAT='%R %U %S'; time \"$0\" matrix -m \"$1\" --threads \"$2\" \"$3\"";
+    let output = Command::new("bash")
+        .args([
+            "-c",
+            script,
+            TOOL,
+            &MINIMUM.to_string(),
+            &threads.to_string(),
+        ])
+        .arg(file)
+        .stdin(Stdio::null())
+        .output()?;
+    let error = String::from_utf8_lossy(&output.stderr);
+    let times = Vec::from_iter(error.split_whitespace().map_while(|it| it.parse().ok()));
+    match times[..] {
+        [clock, user, system] if output.status.success() => Ok((
+            String::from_utf8_lossy(&output.stdout).into_owned(),
+            Times {
+                clock,
+                processors: user + system,
+            },
+        )),
+        _ => Err(io::Error::other(format!("{TOOL}: {error}"))),
+    }
+}
+
+/// The scores in a table, row by row.
+fn scores_of(table: &str) -> Vec<u32> {
+    let cells = table
+        .lines()
+        .skip(1)
+        .flat_map(|line| line.split(',').skip(1));
+    cells.filter_map(|cell| cell.parse().ok()).collect()
+}
+
+fn median(mut times: Vec<f64>) -> f64 {
+    times.sort_unstable_by(f64::total_cmp);
+    times[times.len() / 2]
+}
+
+/// A file of records that is removed in the end.
+struct Scratch(PathBuf);
+
+impl Scratch {
+    fn new(records: &[u8]) -> io::Result<Self> {
+        let path = env::temp_dir().join(format!("sigxume-matrix-{}", process::id()));
+        fs::File::create_new(&path)?.write_all(records)?;
+        Ok(Self(path))
+    }
+}
+
+impl Drop for Scratch {
+    fn drop(&mut self) {
+        // What cannot be removed is left in the system's folder for such files.
+        let _ = fs::remove_file(&self.0);
+    }
+}
+
+/// Times the comparisons and the tool on one thread and on all, prints the table and notes what was
+/// promised.
+pub fn compare_matrix(promises: &mut Promises) -> io::Result<()> {
+    let sequences = families(&mut Random::new(SEED), FAMILIES, MAX_WORDS, CODES);
+    let records = sequences.iter().zip(0..);
+    let records = Vec::from_iter(records.flat_map(|(words, id)| bytes(&record(id, words))));
+    let file = Scratch::new(&records)?;
+    let cores = thread::available_parallelism()?.get();
+    let counts = [1, cores];
+    let mut alone = counts.map(|_| Vec::new());
+    let mut tool = counts.map(|_| Vec::new());
+    for _ in 0..RUNS {
+        for (at, &threads) in counts.iter().enumerate() {
+            let (scores, time) = compare_all(&sequences, threads);
+            alone[at].push(time);
+            let (table, times) = run_tool(&file.0, threads)?;
+            if scores != scores_of(&table) {
+                return Err(io::Error::other("the matrix has other scores"));
+            }
+            tool[at].push(times);
+        }
+    }
+    let fish = sequences.len();
+    let pairs = fish * (fish - 1) / 2;
+    println!(
+        "\nThe tool's matrix over {fish} records of {MAX_WORDS} words in {} families of {}, {CODES} codes \
+         (seed {SEED}), minimum {MINIMUM}: {pairs} comparisons; beside the same comparisons made in one \
+         process that has the sequences. Median of {RUNS} runs, in seconds; {cores} cores.\n",
+        FAMILIES[0], FAMILIES[1]
+    );
+    let titles = [
+        "Threads",
+        "comparisons alone",
+        "`sigxume matrix`",
+        "matrix / alone",
+        "processor time",
+        "cores busy",
+    ];
+    head(&titles.map(String::from));
+    for (at, &threads) in counts.iter().enumerate() {
+        let clock = median(tool[at].iter().map(|it| it.clock).collect());
+        let processors = median(tool[at].iter().map(|it| it.processors).collect());
+        let comparisons = median(alone[at].clone());
+        let (cost, busy) = (rounded(clock / comparisons), rounded(processors / clock));
+        row(&[
+            threads.to_string(),
+            format!("{comparisons:.3}"),
+            format!("{clock:.3}"),
+            format!("{cost:.2}"),
+            format!("{processors:.3}"),
+            format!("{busy:.2}"),
+        ]);
+        promises.note(
+            format!("matrix, {threads} threads: matrix / comparisons alone at most {MOST_COST}, measured {cost:.2}"),
+            cost <= MOST_COST,
+        );
+        let least = LEAST_CORES * threads as f64;
+        promises.note(
+            format!(
+                "matrix, {threads} threads: cores busy at least {least:.1}, measured {busy:.2}"
+            ),
+            busy >= least,
+        );
+    }
+    Ok(())
+}
