@@ -1,5 +1,7 @@
 //! `sigxume`, the command-line tool: thin, it decides nothing that the core decides.
 
+mod axis;
+mod chain;
 mod failure;
 mod fish;
 mod help;

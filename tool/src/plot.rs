@@ -1,8 +1,210 @@
-//! One pair's tiles as an SVG picture.
+//! One pair's tiles as an SVG picture: the first sequence runs to the right, the second down, and each tile is
+//! a slanting line.
 
+use crate::axis::{counted, Axis};
+use crate::chain;
 use crate::fish::Fish;
-use sigxume::Tiling;
+use sigxume::{Tile, Tiling};
 
-pub fn plot(_: [&Fish; 2], _: u32, _: Tiling) -> String {
-    String::new()
+/// Where the plot's upper left corner is, what is free right of it and below it, and the least width of the
+/// picture, which the legend needs.
+const LEFT: f64 = 80.0;
+const TOP: f64 = 140.0;
+const FREE: f64 = 28.0;
+const LEAST: f64 = 480.0;
+
+/// A band lies so far outside the plot and is so wide.
+const OUTSIDE: f64 = 12.0;
+const BAND: f64 = 8.0;
+
+// A moved tile is told apart by colour, by its lightness in grey print, and by its width.
+const STYLE: &str = "\
+text { font-family: sans-serif; font-size: 12px; fill: #222222; }
+.heading { font-size: 16px; font-weight: bold; }
+.middle { text-anchor: middle; }
+.end { text-anchor: end; }
+.faint { fill: #777777; }
+.paper { fill: #ffffff; }
+.band { fill: #eeeeee; }
+.grid { fill: none; stroke: #e2e2e2; }
+.frame { fill: none; stroke: #777777; }
+.kept { fill: #004488; stroke: #004488; stroke-linecap: round; }
+.moved { fill: #e07b00; stroke: #e07b00; stroke-linecap: round; }
+.cover { stroke: none; }
+";
+
+/// The widths of the tiles' lines, in order and moved.
+const WIDTHS: [f64; 2] = [2.5, 5.0];
+
+pub fn plot(fish: [&Fish; 2], minimum: u32, tiling: Tiling) -> String {
+    let kept = chain::heaviest(&Vec::from_iter(tiling.tiles()));
+    let in_order = kept.iter().filter(|kept| **kept).count();
+    let class = |kept: &bool| if *kept { "kept" } else { "moved" };
+    let tiles = Vec::from_iter(tiling.tiles().zip(kept.iter().map(class)));
+    let axes = Axis::pair(fish);
+    let [across, down] = &axes;
+
+    let heading = format!("Fish {} and fish {}", across.id, down.id);
+    let facts = format!(
+        "{} and {}, minimum {minimum}, covered {}, score {}",
+        across.words,
+        counted(down.words, "word"),
+        tiling.covered,
+        tiling.score
+    );
+    let keys = [
+        format!("{} in order", counted(in_order, "tile")),
+        format!("{} moved", counted(tiling.tiles - in_order, "tile")),
+    ];
+    [
+        opening(&axes, &heading, &format!("{facts}; {}", keys.join(", "))),
+        legend(&heading, &facts, &keys),
+        grid(&axes),
+        bands(&axes, &tiles),
+        if tiles.is_empty() {
+            nothing(&axes)
+        } else {
+            String::new()
+        },
+        lines(&axes, &tiles),
+        "</svg>\n".into(),
+    ]
+    .concat()
+}
+
+fn opening(axes: &[Axis; 2], heading: &str, description: &str) -> String {
+    let [across, down] = axes;
+    let width = decimal((LEFT + across.side + FREE).max(LEAST));
+    let height = decimal(TOP + down.side + FREE);
+    let widths = widths(axes);
+    format!(
+        r#"<?xml version="1.0" encoding="UTF-8"?>
+<svg xmlns="http://www.w3.org/2000/svg" version="1.1" width="{width}" height="{height}" viewBox="0 0 {width} {height}" role="img" aria-labelledby="title description">
+<title id="title">{heading}</title>
+<desc id="description">{description}. The first sequence runs from left to right and the second from top to bottom. Each tile is a slanting line from where it starts to where it ends in both.</desc>
+<style>
+{STYLE}{widths}</style>
+<rect class="paper" width="{width}" height="{height}"/>
+"#
+    )
+}
+
+/// The tiles are scaled but their lines' width is not to be. Where the viewer cannot leave it as it is, a width is
+/// given that comes out right, or nearly so where the axes have two scales.
+fn widths([across, down]: &[Axis; 2]) -> String {
+    let scale = (across.scale() * down.scale()).sqrt();
+    let [kept, moved] = WIDTHS;
+    let [kept_scaled, moved_scaled] = WIDTHS.map(|width| decimal(width / scale));
+    format!(
+        ".kept {{ stroke-width: {kept}; }}
+.moved {{ stroke-width: {moved}; }}
+.tile.kept {{ stroke-width: {kept_scaled}; }}
+.tile.moved {{ stroke-width: {moved_scaled}; }}
+@supports (vector-effect: non-scaling-stroke) {{
+.tile {{ vector-effect: non-scaling-stroke; }}
+.tile.kept {{ stroke-width: {kept}; }}
+.tile.moved {{ stroke-width: {moved}; }}
+}}
+"
+    )
+}
+
+fn legend(heading: &str, facts: &str, [kept, moved]: &[String; 2]) -> String {
+    format!(
+        r#"<g id="legend">
+<text class="heading" x="16" y="28">{heading}</text>
+<text x="16" y="50">{facts}</text>
+<path class="kept" d="M18 68H42"/>
+<text x="52" y="72">{kept}</text>
+<path class="moved" d="M202 68H226"/>
+<text x="236" y="72">{moved}</text>
+</g>
+"#
+    )
+}
+
+/// Frame, grid, ticks and titles.
+fn grid([across, down]: &[Axis; 2]) -> String {
+    let [right, bottom] = [across, down].map(|axis| decimal(axis.side));
+    let mut lines = String::new();
+    let mut labels = String::new();
+    for (position, far) in across.ticks() {
+        let x = decimal(far);
+        lines += &format!("M{x} 0V{bottom}");
+        labels += &format!("<text class=\"middle\" x=\"{x}\" y=\"-18\">{position}</text>\n");
+    }
+    for (position, far) in down.ticks() {
+        let [y, baseline] = [far, far + 4.0].map(decimal);
+        lines += &format!("M0 {y}H{right}");
+        labels += &format!("<text class=\"end\" x=\"-18\" y=\"{baseline}\">{position}</text>\n");
+    }
+    let [centre, middle] = [across, down].map(|axis| decimal(axis.side / 2.0));
+    format!(
+        r#"<g id="axes" transform="translate({LEFT} {TOP})">
+<path class="grid" d="{lines}"/>
+<rect class="frame" width="{right}" height="{bottom}"/>
+{labels}<text class="middle" x="{centre}" y="-38">{}</text>
+<text class="middle" transform="translate(-56 {middle}) rotate(-90)">{}</text>
+</g>
+"#,
+        across.title(),
+        down.title()
+    )
+}
+
+/// The stretches that tiles cover, along both axes.
+fn bands([across, down]: &[Axis; 2], tiles: &[(Tile, &str)]) -> String {
+    let band = |name, turn, axis: &Axis, start: fn(&Tile) -> usize| {
+        let covers = String::from_iter(tiles.iter().map(|(tile, class)| {
+            let (x, width) = (start(tile), tile.length);
+            format!(
+                "<rect class=\"cover {class}\" x=\"{x}\" width=\"{width}\" height=\"{BAND}\"/>\n"
+            )
+        }));
+        format!(
+            "<g id=\"{name}\" transform=\"{turn} scale({} 1)\">\n\
+             <rect class=\"band\" width=\"{}\" height=\"{BAND}\"/>\n{covers}</g>\n",
+            decimal(axis.scale()),
+            axis.words
+        )
+    };
+    let above = format!("translate({LEFT} {})", TOP - OUTSIDE);
+    // A quarter turn and a mirror: along is down, and away from the plot is left.
+    let beside = format!("translate({} {TOP}) matrix(0 1 1 0 0 0)", LEFT - OUTSIDE);
+    band("first-covered", above, across, |tile| tile.first)
+        + &band("second-covered", beside, down, |tile| tile.second)
+}
+
+/// Said in the middle, so that an empty plot is not taken for a broken one.
+fn nothing([across, down]: &[Axis; 2]) -> String {
+    let [x, y] = [LEFT + across.side / 2.0, TOP + down.side / 2.0].map(decimal);
+    format!("<text class=\"middle faint\" x=\"{x}\" y=\"{y}\">no tiles</text>\n")
+}
+
+fn lines([across, down]: &[Axis; 2], tiles: &[(Tile, &str)]) -> String {
+    let [x, y] = [across, down].map(|axis| decimal(axis.scale()));
+    let mut text =
+        format!("<g id=\"tiles\" transform=\"translate({LEFT} {TOP}) scale({x} {y})\">\n");
+    for (tile, class) in tiles {
+        let Tile {
+            first,
+            second,
+            length,
+        } = tile;
+        text += &format!(
+            "<line class=\"tile {class}\" x1=\"{first}\" y1=\"{second}\" x2=\"{}\" y2=\"{}\">\
+             <title>{} from {first} and from {second}, shift {}</title></line>\n",
+            first + length,
+            second + length,
+            counted(*length, "word"),
+            tile.shift()
+        );
+    }
+    text + "</g>\n"
+}
+
+/// A number with few decimals.
+fn decimal(value: f64) -> String {
+    let text = format!("{value:.4}");
+    text.trim_end_matches('0').trim_end_matches('.').into()
 }
