@@ -5,6 +5,7 @@ use crate::axis::{counted, Axis};
 use crate::chain;
 use crate::fish::Fish;
 use sigxume::{Tile, Tiling};
+use std::ops::Range;
 
 /// Where the plot's upper left corner is, what is free right of it and below it, and the least width of the
 /// picture, which the legend needs.
@@ -34,7 +35,7 @@ text { font-family: sans-serif; font-size: 12px; fill: #222222; }
 ";
 
 /// The widths of the tiles' lines, in order and moved.
-const WIDTHS: [f64; 2] = [2.5, 5.0];
+const WIDTHS: [f64; 2] = [3.0, 5.0];
 
 pub fn plot(fish: [&Fish; 2], minimum: u32, tiling: Tiling) -> String {
     let kept = chain::heaviest(&Vec::from_iter(tiling.tiles()));
@@ -154,25 +155,48 @@ fn grid([across, down]: &[Axis; 2]) -> String {
 
 /// The stretches that tiles cover, along both axes.
 fn bands([across, down]: &[Axis; 2], tiles: &[(Tile, &str)]) -> String {
-    let band = |name, turn, axis: &Axis, start: fn(&Tile) -> usize| {
-        let covers = String::from_iter(tiles.iter().map(|(tile, class)| {
-            let (x, width) = (start(tile), tile.length);
-            format!(
-                "<rect class=\"cover {class}\" x=\"{x}\" width=\"{width}\" height=\"{BAND}\"/>\n"
-            )
-        }));
-        format!(
-            "<g id=\"{name}\" transform=\"{turn} scale({} 1)\">\n\
-             <rect class=\"band\" width=\"{}\" height=\"{BAND}\"/>\n{covers}</g>\n",
-            decimal(axis.scale()),
-            axis.words
-        )
-    };
     let above = format!("translate({LEFT} {})", TOP - OUTSIDE);
-    // A quarter turn and a mirror: along is down, and away from the plot is left.
+    // With the coordinates changed over, what runs to the right runs down.
     let beside = format!("translate({} {TOP}) matrix(0 1 1 0 0 0)", LEFT - OUTSIDE);
-    band("first-covered", above, across, |tile| tile.first)
-        + &band("second-covered", beside, down, |tile| tile.second)
+    let [first, second] = [|tile: Tile| tile.first, |tile: Tile| tile.second];
+    band("first-covered", &above, across, stretches(tiles, first))
+        + &band("second-covered", &beside, down, stretches(tiles, second))
+}
+
+fn band(name: &str, place: &str, axis: &Axis, stretches: Vec<(Range<usize>, &str)>) -> String {
+    let scale = decimal(axis.scale());
+    let words = axis.words;
+    let mut text = format!(
+        "<g id=\"{name}\" transform=\"{place} scale({scale} 1)\">\n\
+         <rect class=\"band\" width=\"{words}\" height=\"{BAND}\"/>\n"
+    );
+    for (Range { start, end }, class) in stretches {
+        let width = end - start;
+        text += &format!(
+            "<rect class=\"cover {class}\" x=\"{start}\" width=\"{width}\" height=\"{BAND}\"/>\n"
+        );
+    }
+    text + "</g>\n"
+}
+
+/// What tiles cover of a sequence, in order. Neighbours of one class are joined, as no gap may show.
+fn stretches<'a>(
+    tiles: &[(Tile, &'a str)],
+    start: fn(Tile) -> usize,
+) -> Vec<(Range<usize>, &'a str)> {
+    let mut stretches = Vec::from_iter(tiles.iter().map(|(tile, class)| {
+        let start = start(*tile);
+        (start..start + tile.length, *class)
+    }));
+    stretches.sort_by_key(|(range, _)| range.start);
+    stretches.dedup_by(|(range, class), (last, last_class)| {
+        let joined = last.end == range.start && last_class == class;
+        if joined {
+            last.end = range.end;
+        }
+        joined
+    });
+    stretches
 }
 
 /// Said in the middle, so that an empty plot is not taken for a broken one.

@@ -124,20 +124,17 @@ fn number<T: FromStr>(text: &str) -> Option<T> {
 
 /// Reads what stands after a subcommand, up to a wish for help, if there is one. The message of an error says
 /// what is wrong.
-pub fn parse(
-    arguments: impl IntoIterator<Item = OsString>,
-    accepted: &Accepted,
-) -> Result<Arguments, String> {
-    let mut rest = arguments.into_iter();
+pub fn parse(arguments: &[OsString], accepted: &Accepted) -> Result<Arguments, String> {
+    let mut rest = arguments.iter();
     let mut parsed = Arguments::default();
     let mut given = Vec::new();
     while let Some(argument) = rest.next() {
         if argument == "--" {
-            parsed.operands.extend(rest);
+            parsed.operands.extend(rest.cloned());
             break;
         }
-        let Some((spelled, attached)) = split(&argument) else {
-            parsed.operands.push(argument);
+        let Some((spelled, attached)) = split(argument) else {
+            parsed.operands.push(argument.clone());
             continue;
         };
         let shown = spelled.to_string_lossy();
@@ -157,10 +154,10 @@ pub fn parse(
             },
             Value(wanted, set) => {
                 let value = match attached {
-                    Some(value) => value.to_owned(),
+                    Some(value) => value,
                     None => rest.next().ok_or(format!("{shown} wants {wanted}"))?,
                 };
-                set(&mut parsed, &value).ok_or_else(|| {
+                set(&mut parsed, value).ok_or_else(|| {
                     format!("{shown} wants {wanted}, not '{}'", value.to_string_lossy())
                 })?;
             }
