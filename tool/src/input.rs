@@ -58,7 +58,7 @@ impl Reader {
     pub fn open_folders(&mut self, operands: &[OsString]) -> Result<Vec<OsString>, Failure> {
         let mut files = Vec::new();
         for operand in operands {
-            if !Path::new(operand).is_dir() {
+            if operand == "-" || !Path::new(operand).is_dir() {
                 files.push(operand.clone());
                 continue;
             }

@@ -126,13 +126,13 @@ fn general(words: &[&str]) -> Result<(), Failure> {
         ["-V" | "--version", ..] => print(concat!("sigxume ", env!("CARGO_PKG_VERSION"), "\n")),
         ["help", name] => match find(name) {
             Some(subcommand) => print(subcommand.help),
-            None => usage(format!("unknown subcommand {name}")),
+            None => usage(format!("unknown subcommand '{name}'")),
         },
         ["help", ..] => usage("help takes one subcommand at most".into()),
         [option, ..] if option.starts_with('-') => usage(format!(
             "unknown option {option}: options follow a subcommand"
         )),
-        [name, ..] => usage(format!("unknown subcommand {name}")),
+        [name, ..] => usage(format!("unknown subcommand '{name}'")),
     }
 }
 

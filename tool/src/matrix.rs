@@ -21,39 +21,34 @@ pub struct Matrix<'a> {
     pub threads: usize,
 }
 
-/// The most pairs that a thread takes at a time.
+/// The most pairs in a chunk.
 const MOST: usize = 32;
 
-/// How many chunks of pairs there are for each thread that are not written.
-const AHEAD: usize = 64;
+/// The chunks for each thread that may be out at a time.
+const OUT: usize = 64;
 
-/// Pairs that a thread compares, with their place in the order.
+/// Pairs that a thread compares in one go, with their place in the order.
 type Chunk = (usize, Vec<(usize, usize)>);
 
 /// The text of a chunk, or why there is none.
 type Answer = (usize, Result<String, Refusal>);
 
 impl Matrix<'_> {
-    /// Threads take chunks from a queue, into which a new one goes for each that is written: so none runs far
-    /// ahead, and memory stays bounded however long one chunk takes.
+    /// Compares the pairs and writes them.
     pub fn write(&self, output: &mut Output) -> Result<(), Failure> {
         let total = self.pairs.len();
         let size = (total / self.threads / 16).clamp(1, MOST);
-        let mut pairs = Pairs::from(self.table.fish.len(), self.pairs.start).take(total);
-        let mut chunks = iter::from_fn(|| {
-            let chunk = Vec::from_iter(pairs.by_ref().take(size));
-            (!chunk.is_empty()).then_some(chunk)
-        })
-        .enumerate();
         let threads = self.threads.min(total.div_ceil(size));
+        let mut pairs = Pairs::from(self.table.fish.len(), self.pairs.start).take(total);
+        let chunks = iter::repeat_with(|| Vec::from_iter(pairs.by_ref().take(size)));
+        let mut chunks = chunks.enumerate().take(total.div_ceil(size));
+
         let (queue, queued) = channel();
-        for chunk in chunks.by_ref().take(AHEAD * threads) {
-            // It cannot fail: who takes them is there until the end.
-            let _ = queue.send(chunk);
+        for chunk in chunks.by_ref().take(OUT * threads) {
+            send(&queue, chunk);
         }
         let queued = Mutex::new(queued);
         let (answer, answers) = channel();
-
         thread::scope(|scope| {
             for _ in 0..threads {
                 let answer = answer.clone();
@@ -64,40 +59,49 @@ impl Matrix<'_> {
                 }
             }
             drop(answer);
-            // Dropped where nothing is left or writing fails: then the threads end.
-            let mut queue = Some(queue);
-            let mut early = BTreeMap::new();
-            let mut text = String::new();
-            let mut written = 0;
-            let mut progress = Progress::new(total);
-            for (number, answer) in answers {
-                early.insert(number, answer?);
-                while let Some(next) = early.remove(&written) {
-                    text += &next;
-                    written += 1;
-                    match (chunks.next(), &queue) {
-                        (Some(chunk), Some(queue)) => {
-                            let _ = queue.send(chunk);
-                        }
-                        _ => queue = None,
-                    }
-                }
-                if progress.due() {
-                    // Whole lines only, so that the bar never stands in one.
-                    let whole = text.rfind('\n').map_or(0, |at| at + 1);
-                    progress.wipe();
-                    output.write(&text.as_bytes()[..whole])?;
-                    text.drain(..whole);
-                    progress.draw((written * size).min(total));
-                }
-            }
-            progress.wipe();
-            output.write(text.as_bytes())?;
-            if written * size < total {
-                return Err(Failure::Message("no thread could be started".into()));
-            }
-            Ok(())
+            // The queue ends here, and so do the threads, whether all is written or writing has failed.
+            self.collect(chunks, size, queue, answers, output)
         })
+    }
+
+    /// Writes the answers in order. For each that has found its place a new chunk goes into the queue: so no thread
+    /// runs far ahead, and memory stays bounded however long one chunk takes.
+    fn collect(
+        &self,
+        mut chunks: impl Iterator<Item = Chunk>,
+        size: usize,
+        queue: Sender<Chunk>,
+        answers: Receiver<Answer>,
+        output: &mut Output,
+    ) -> Result<(), Failure> {
+        let total = self.pairs.len();
+        let mut progress = Progress::new(total);
+        let mut early = BTreeMap::new();
+        let mut next = 0;
+        let mut text = String::new();
+        while next * size < total {
+            let Ok((number, answer)) = answers.recv() else {
+                return Err(Failure::Message("no thread could be started".into()));
+            };
+            early.insert(number, answer?);
+            while let Some(answer) = early.remove(&next) {
+                text += &answer;
+                next += 1;
+                if let Some(chunk) = chunks.next() {
+                    send(&queue, chunk);
+                }
+            }
+            if progress.due() {
+                // Whole lines only, so that the bar never stands in one.
+                let whole = text.rfind('\n').map_or(0, |at| at + 1);
+                progress.wipe();
+                output.write(&text.as_bytes()[..whole])?;
+                text.drain(..whole);
+                progress.draw((next * size).min(total));
+            }
+        }
+        drop(progress);
+        output.write(text.as_bytes())
     }
 
     fn compare_chunks(&self, queue: &Mutex<Receiver<Chunk>>, answer: Sender<Answer>) {
@@ -127,4 +131,8 @@ impl Matrix<'_> {
         }
         Ok(text)
     }
+}
+
+fn send(queue: &Sender<Chunk>, chunk: Chunk) {
+    queue.send(chunk).expect("the other end stays to the last");
 }
