@@ -75,15 +75,15 @@ pub fn plot(fish: [&Fish; 2], minimum: u32, tiling: Tiling) -> String {
 
 fn opening(axes: &[Axis; 2], heading: &str, description: &str) -> String {
     let [across, down] = axes;
-    let width = decimal((LEFT + across.side + FREE).max(LEAST));
-    let height = decimal(TOP + down.side + FREE);
+    let width = (LEFT + across.side + FREE).max(LEAST).ceil();
+    let height = (TOP + down.side + FREE).ceil();
     let widths = widths(axes);
     format!(
         r#"<?xml version="1.0" encoding="UTF-8"?>
 <svg xmlns="http://www.w3.org/2000/svg" version="1.1" width="{width}" height="{height}" viewBox="0 0 {width} {height}" role="img" aria-labelledby="title description">
 <title id="title">{heading}</title>
 <desc id="description">{description}. The first sequence runs from left to right and the second from top to bottom. Each tile is a slanting line from where it starts to where it ends in both.</desc>
-<style>
+<style type="text/css">
 {STYLE}{widths}</style>
 <rect class="paper" width="{width}" height="{height}"/>
 "#
@@ -95,7 +95,7 @@ fn opening(axes: &[Axis; 2], heading: &str, description: &str) -> String {
 fn widths([across, down]: &[Axis; 2]) -> String {
     let scale = (across.scale() * down.scale()).sqrt();
     let [kept, moved] = WIDTHS;
-    let [kept_scaled, moved_scaled] = WIDTHS.map(|width| decimal(width / scale));
+    let [kept_scaled, moved_scaled] = WIDTHS.map(|width| factor(width / scale));
     format!(
         ".kept {{ stroke-width: {kept}; }}
 .moved {{ stroke-width: {moved}; }}
@@ -126,20 +126,20 @@ fn legend(heading: &str, facts: &str, [kept, moved]: &[String; 2]) -> String {
 
 /// Frame, grid, ticks and titles.
 fn grid([across, down]: &[Axis; 2]) -> String {
-    let [right, bottom] = [across, down].map(|axis| decimal(axis.side));
+    let [right, bottom] = [across, down].map(|axis| place(axis.side));
     let mut lines = String::new();
     let mut labels = String::new();
     for (position, far) in across.ticks() {
-        let x = decimal(far);
+        let x = place(far);
         lines += &format!("M{x} 0V{bottom}");
         labels += &format!("<text class=\"middle\" x=\"{x}\" y=\"-18\">{position}</text>\n");
     }
     for (position, far) in down.ticks() {
-        let [y, baseline] = [far, far + 4.0].map(decimal);
+        let [y, baseline] = [far, far + 4.0].map(place);
         lines += &format!("M0 {y}H{right}");
         labels += &format!("<text class=\"end\" x=\"-18\" y=\"{baseline}\">{position}</text>\n");
     }
-    let [centre, middle] = [across, down].map(|axis| decimal(axis.side / 2.0));
+    let [centre, middle] = [across, down].map(|axis| place(axis.side / 2.0));
     format!(
         r#"<g id="axes" transform="translate({LEFT} {TOP})">
 <path class="grid" d="{lines}"/>
@@ -164,7 +164,7 @@ fn bands([across, down]: &[Axis; 2], tiles: &[(Tile, &str)]) -> String {
 }
 
 fn band(name: &str, place: &str, axis: &Axis, stretches: Vec<(Range<usize>, &str)>) -> String {
-    let scale = decimal(axis.scale());
+    let scale = factor(axis.scale());
     let words = axis.words;
     let mut text = format!(
         "<g id=\"{name}\" transform=\"{place} scale({scale} 1)\">\n\
@@ -201,34 +201,42 @@ fn stretches<'a>(
 
 /// Said in the middle, so that an empty plot is not taken for a broken one.
 fn nothing([across, down]: &[Axis; 2]) -> String {
-    let [x, y] = [LEFT + across.side / 2.0, TOP + down.side / 2.0].map(decimal);
+    let [x, y] = [LEFT + across.side / 2.0, TOP + down.side / 2.0].map(place);
     format!("<text class=\"middle faint\" x=\"{x}\" y=\"{y}\">no tiles</text>\n")
 }
 
 fn lines([across, down]: &[Axis; 2], tiles: &[(Tile, &str)]) -> String {
-    let [x, y] = [across, down].map(|axis| decimal(axis.scale()));
+    let [x, y] = [across, down].map(|axis| factor(axis.scale()));
     let mut text =
         format!("<g id=\"tiles\" transform=\"translate({LEFT} {TOP}) scale({x} {y})\">\n");
     for (tile, class) in tiles {
-        let Tile {
-            first,
-            second,
-            length,
-        } = tile;
+        let [x1, y1] = [tile.first, tile.second];
+        let [x2, y2] = [x1, y1].map(|start| start + tile.length);
+        let words = counted(tile.length, "word");
+        let places = format!(
+            "position {x1} of fish {} and {y1} of fish {}",
+            across.id, down.id
+        );
+        let shift = tile.shift();
         text += &format!(
-            "<line class=\"tile {class}\" x1=\"{first}\" y1=\"{second}\" x2=\"{}\" y2=\"{}\">\
-             <title>{} from {first} and from {second}, shift {}</title></line>\n",
-            first + length,
-            second + length,
-            counted(*length, "word"),
-            tile.shift()
+            "<line class=\"tile {class}\" x1=\"{x1}\" y1=\"{y1}\" x2=\"{x2}\" y2=\"{y2}\">\
+             <title>{words} from {places}, shift {shift}</title></line>\n"
         );
     }
     text + "</g>\n"
 }
 
-/// A number with few decimals.
-fn decimal(value: f64) -> String {
-    let text = format!("{value:.4}");
+/// A place in the picture.
+fn place(value: f64) -> String {
+    decimals(value, 2)
+}
+
+/// A number that others are multiplied by, up to 2,048.
+fn factor(value: f64) -> String {
+    decimals(value, 4)
+}
+
+fn decimals(value: f64, places: usize) -> String {
+    let text = format!("{value:.places$}");
     text.trim_end_matches('0').trim_end_matches('.').into()
 }
