@@ -70,11 +70,11 @@ fn one_pair(
 
 pub fn matrix(arguments: Arguments) -> Result<(), Failure> {
     let mut reader = Reader {
+        folders: true,
         keep_going: arguments.keep_going,
         left_out: false,
     };
-    let files = reader.open_folders(&arguments.operands)?;
-    let fish = reader.fish(&files, Form::Either)?;
+    let fish = reader.fish(&arguments.operands, Form::Either)?;
     // The core has to refuse a minimum even where there is no pair.
     Comparer::new().compare(&[], &[], arguments.minimum)?;
 

@@ -21,53 +21,50 @@ pub enum Form {
 /// Reads fish; what is wrong ends the reading, or is said and left out.
 #[derive(Default)]
 pub struct Reader {
+    /// Whether the files of a folder are read where it is named.
+    pub folders: bool,
     pub keep_going: bool,
     /// Whether something was left out.
     pub left_out: bool,
 }
 
 impl Reader {
-    /// The fish of all files, in their order.
+    /// The fish of all operands, in their order; a folder's files are in the order of their names.
     pub fn fish(&mut self, operands: &[OsString], form: Form) -> Result<Vec<Fish>, Failure> {
         let mut fish = Vec::new();
         for operand in operands {
-            let name = shown(operand);
-            let bytes = match bytes_of(operand) {
-                Ok(bytes) => bytes,
-                Err(error) => {
-                    self.wrong(unreadable(&name, &error))?;
-                    continue;
+            if !(self.folders && operand != "-" && Path::new(operand).is_dir()) {
+                self.file(operand, form, &mut fish)?;
+                continue;
+            }
+            match files_of(Path::new(operand)) {
+                Ok(files) => {
+                    for file in files {
+                        self.file(&file, form, &mut fish)?;
+                    }
                 }
-            };
-            let text = match form {
-                Form::Text => true,
-                Form::Records => false,
-                Form::Either => is_text(&bytes),
-            };
-            if text {
-                self.text(&name, &bytes, &mut fish)?;
-            } else {
-                self.records(&name, &bytes, &mut fish)?;
+                Err(error) => self.wrong(unreadable(&shown(operand), &error))?,
             }
         }
         Ok(fish)
     }
 
-    /// The operands with each folder's files in its place, in the order of their names. A file whose
-    /// name begins with a dot is passed over.
-    pub fn open_folders(&mut self, operands: &[OsString]) -> Result<Vec<OsString>, Failure> {
-        let mut files = Vec::new();
-        for operand in operands {
-            if operand == "-" || !Path::new(operand).is_dir() {
-                files.push(operand.clone());
-                continue;
-            }
-            match files_of(Path::new(operand)) {
-                Ok(found) => files.extend(found),
-                Err(error) => self.wrong(unreadable(&shown(operand), &error))?,
-            }
+    fn file(&mut self, operand: &OsStr, form: Form, fish: &mut Vec<Fish>) -> Result<(), Failure> {
+        let name = shown(operand);
+        let bytes = match bytes_of(operand) {
+            Ok(bytes) => bytes,
+            Err(error) => return self.wrong(unreadable(&name, &error)),
+        };
+        let text = match form {
+            Form::Text => true,
+            Form::Records => false,
+            Form::Either => is_text(&bytes),
+        };
+        if text {
+            self.text(&name, &bytes, fish)
+        } else {
+            self.records(&name, &bytes, fish)
         }
-        Ok(files)
     }
 
     fn text(&mut self, name: &str, bytes: &[u8], fish: &mut Vec<Fish>) -> Result<(), Failure> {
@@ -135,6 +132,7 @@ fn bytes_of(operand: &OsStr) -> io::Result<Vec<u8>> {
     Ok(bytes)
 }
 
+/// The files of a folder, but not those whose names begin with a dot.
 fn files_of(folder: &Path) -> io::Result<Vec<OsString>> {
     let mut files = Vec::new();
     for file in fs::read_dir(folder)? {

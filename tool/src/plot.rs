@@ -163,11 +163,11 @@ fn bands([across, down]: &[Axis; 2], tiles: &[(Tile, &str)]) -> String {
         + &band("second-covered", &beside, down, stretches(tiles, second))
 }
 
-fn band(name: &str, place: &str, axis: &Axis, stretches: Vec<(Range<usize>, &str)>) -> String {
+fn band(name: &str, turn: &str, axis: &Axis, stretches: Vec<(Range<usize>, &str)>) -> String {
     let scale = factor(axis.scale());
     let words = axis.words;
     let mut text = format!(
-        "<g id=\"{name}\" transform=\"{place} scale({scale} 1)\">\n\
+        "<g id=\"{name}\" transform=\"{turn} scale({scale} 1)\">\n\
          <rect class=\"band\" width=\"{words}\" height=\"{BAND}\"/>\n"
     );
     for (Range { start, end }, class) in stretches {
@@ -231,7 +231,7 @@ fn place(value: f64) -> String {
     decimals(value, 2)
 }
 
-/// A number that others are multiplied by, up to 2,048.
+/// A factor of positions, so with more decimals.
 fn factor(value: f64) -> String {
     decimals(value, 4)
 }

@@ -6,6 +6,7 @@ use std::ops::RangeInclusive;
 use std::os::unix::ffi::OsStrExt;
 use std::path::PathBuf;
 use std::str::FromStr;
+use Takes::{Nothing, Value};
 
 /// What a command line asks of its subcommand.
 #[derive(Default)]
@@ -47,8 +48,6 @@ enum Takes {
     Nothing(fn(&mut Arguments)),
     Value(&'static str, fn(&mut Arguments, &OsStr) -> Option<()>),
 }
-
-use Takes::{Nothing, Value};
 
 const TABLE: [Row; 9] = [
     Row {
