@@ -34,13 +34,13 @@ The minimum
         "\
 Operands
   One file that holds both fish, or two files with one each. A file is text or
-  records; the tool sees which. - is standard input. Where there are more than
-  two fish, --fish names the two.
+  records; the tool sees which ('sigxume encode --help' tells of both). - is
+  standard input. Where there are more than two fish, --fish names the two.
 "
     };
     (output) => {
-        "  -o, --output FILE   write to FILE, not to the screen; FILE is there only
-                      when all is well\n"
+        "  -o, --output FILE   write to FILE and not to standard output; if something
+                      goes wrong, FILE stays as it was\n"
     };
     (help) => {
         "  -h, --help          this text\n"
@@ -233,9 +233,9 @@ spreadsheet opens.
 Usage: sigxume matrix -m N [OPTION...] PATH...
 
 Operands
-  Files of text or records; the tool sees which. - is standard input. Of a
-  folder all files are taken, in the order of their names, but not those whose
-  names begin with a dot.
+  Files of text or records; the tool sees which ('sigxume encode --help' tells
+  of both). - is standard input. Of a folder all files are taken, in the order
+  of their names, but not those whose names begin with a dot.
 
 Options
   -m, --minimum N     the least words of a tile; it must be given
@@ -267,7 +267,7 @@ The table
 With --keep-going
   Of a file of text only the bad lines are left out; of a file of records the
   bad one and all after it; a file that cannot be read, whole. The rest is
-  compared, and the exit status is 1.
+  compared and written, and the exit status is 1.
 
 ",
     shared!(status),
