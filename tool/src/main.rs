@@ -1,1 +1,145 @@
-fn main() {}
+//! `sigxume`, the command-line tool: thin, it decides nothing that the core decides.
+
+mod axis;
+mod chain;
+mod commands;
+mod failure;
+mod fish;
+mod help;
+mod input;
+mod listing;
+mod matrix;
+mod output;
+mod pairs;
+mod plot;
+mod progress;
+mod table;
+mod text;
+mod usage;
+
+use failure::Failure;
+use std::env;
+use std::ffi::OsString;
+use std::process::ExitCode;
+use usage::{Accepted, Arguments};
+
+struct Subcommand {
+    name: &'static str,
+    accepted: Accepted,
+    help: &'static str,
+    run: fn(Arguments) -> Result<(), Failure>,
+}
+
+const SUBCOMMANDS: [Subcommand; 5] = [
+    Subcommand {
+        name: "encode",
+        accepted: Accepted {
+            options: &["output"],
+            operands: 0..=usize::MAX,
+        },
+        help: help::ENCODE,
+        run: commands::encode,
+    },
+    Subcommand {
+        name: "decode",
+        accepted: Accepted {
+            options: &["output"],
+            operands: 0..=usize::MAX,
+        },
+        help: help::DECODE,
+        run: commands::decode,
+    },
+    Subcommand {
+        name: "compare",
+        accepted: Accepted {
+            options: &["minimum", "fish", "json", "output"],
+            operands: 1..=2,
+        },
+        help: help::COMPARE,
+        run: commands::compare,
+    },
+    Subcommand {
+        name: "plot",
+        accepted: Accepted {
+            options: &["minimum", "fish", "output"],
+            operands: 1..=2,
+        },
+        help: help::PLOT,
+        run: commands::plot,
+    },
+    Subcommand {
+        name: "matrix",
+        accepted: Accepted {
+            options: &[
+                "minimum",
+                "pairs",
+                "part",
+                "keep-going",
+                "threads",
+                "output",
+            ],
+            operands: 1..=usize::MAX,
+        },
+        help: help::MATRIX,
+        run: commands::matrix,
+    },
+];
+
+fn main() -> ExitCode {
+    let arguments = Vec::from_iter(env::args_os().skip(1));
+    let words = Vec::from_iter(arguments.iter().map(|argument| argument.to_string_lossy()));
+    let words = Vec::from_iter(words.iter().map(|word| &**word));
+    let (asked, done) = match words.first().and_then(|name| find(name)) {
+        Some(subcommand) => (
+            format!("sigxume {}", subcommand.name),
+            subcommand.run(&arguments[1..]),
+        ),
+        None => ("sigxume".into(), general(&words)),
+    };
+    match done {
+        Ok(()) => ExitCode::SUCCESS,
+        Err(failure) => failure.report(&asked),
+    }
+}
+
+fn find(name: &str) -> Option<&'static Subcommand> {
+    SUBCOMMANDS.iter().find(|known| known.name == name)
+}
+
+impl Subcommand {
+    fn run(&self, arguments: &[OsString]) -> Result<(), Failure> {
+        let parsed = usage::parse(arguments, &self.accepted).map_err(Failure::Usage)?;
+        if parsed.help {
+            return print(self.help);
+        }
+        (self.run)(parsed)
+    }
+}
+
+/// What there is beside the subcommands: help and the version.
+fn general(words: &[&str]) -> Result<(), Failure> {
+    match words {
+        [] => usage("a subcommand is missing".into()),
+        ["-h" | "--help", ..] | ["help"] | ["help", "help" | "-h" | "--help"] => {
+            print(help::GENERAL)
+        }
+        ["-V" | "--version", ..] => print(concat!("sigxume ", env!("CARGO_PKG_VERSION"), "\n")),
+        ["help", name] => match find(name) {
+            Some(subcommand) => print(subcommand.help),
+            None => usage(format!("unknown subcommand '{name}'")),
+        },
+        ["help", ..] => usage("help takes one subcommand at most".into()),
+        [option, ..] if option.starts_with('-') => usage(format!(
+            "unknown option {option}: options follow a subcommand"
+        )),
+        [name, ..] => usage(format!("unknown subcommand '{name}'")),
+    }
+}
+
+fn usage(message: String) -> Result<(), Failure> {
+    Err(Failure::Usage(message))
+}
+
+fn print(text: &str) -> Result<(), Failure> {
+    output::write(None, text.as_bytes())
+}

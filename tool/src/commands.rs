@@ -1,0 +1,103 @@
+//! What the subcommands do.
+
+use crate::failure::Failure;
+use crate::fish::{self, Fish};
+use crate::input::{Form, Reader};
+use crate::matrix::Matrix;
+use crate::output::{self, Output};
+use crate::pairs::Pairs;
+use crate::table::Table;
+use crate::usage::Arguments;
+use crate::{listing, plot, text};
+use sigxume::{bytes_of_words, Comparer, Tiling};
+use std::io::{self, IsTerminal};
+use std::num::NonZeroUsize;
+use std::thread;
+
+pub fn encode(arguments: Arguments) -> Result<(), Failure> {
+    if arguments.output.is_none() && io::stdout().is_terminal() {
+        let message = "records are not for a terminal: name a file by -o FILE";
+        return Err(Failure::Usage(message.into()));
+    }
+    let mut bytes = Vec::new();
+    for fish in read_all(&arguments, Form::Text)? {
+        bytes.extend(bytes_of_words(&fish.record()?));
+    }
+    output::write(arguments.output.as_deref(), &bytes)
+}
+
+pub fn decode(arguments: Arguments) -> Result<(), Failure> {
+    let mut text = String::new();
+    for fish in read_all(&arguments, Form::Records)? {
+        text::print(&mut text, &fish);
+    }
+    output::write(arguments.output.as_deref(), text.as_bytes())
+}
+
+/// The fish of all operands, or of standard input where there are none.
+fn read_all(arguments: &Arguments, form: Form) -> Result<Vec<Fish>, Failure> {
+    match &*arguments.operands {
+        [] => Reader::default().fish(&["-".into()], form),
+        operands => Reader::default().fish(operands, form),
+    }
+}
+
+pub fn compare(arguments: Arguments) -> Result<(), Failure> {
+    let show = if arguments.json {
+        listing::json
+    } else {
+        listing::listing
+    };
+    one_pair(&arguments, show)
+}
+
+pub fn plot(arguments: Arguments) -> Result<(), Failure> {
+    one_pair(&arguments, plot::plot)
+}
+
+fn one_pair(
+    arguments: &Arguments,
+    show: fn([&Fish; 2], u32, Tiling) -> String,
+) -> Result<(), Failure> {
+    let fish = read_all(arguments, Form::Either)?;
+    let pair = fish::pair(&fish, arguments.fish)?;
+    let mut comparer = Comparer::new();
+    let [first, second] = pair.map(|fish| &fish.sequence);
+    let tiling = comparer.compare(first, second, arguments.minimum)?;
+    let text = show(pair, arguments.minimum, tiling);
+    output::write(arguments.output.as_deref(), text.as_bytes())
+}
+
+pub fn matrix(arguments: Arguments) -> Result<(), Failure> {
+    let mut reader = Reader {
+        folders: true,
+        keep_going: arguments.keep_going,
+        left_out: false,
+    };
+    let fish = reader.fish(&arguments.operands, Form::Either)?;
+    // The core has to refuse a minimum even where there is no pair.
+    Comparer::new().compare(&[], &[], arguments.minimum)?;
+
+    let pairs = Pairs::count(fish.len());
+    let cores = || thread::available_parallelism().map_or(1, NonZeroUsize::get);
+    let matrix = Matrix {
+        table: Table {
+            fish: &fish,
+            lines: arguments.pairs,
+        },
+        minimum: arguments.minimum,
+        pairs: arguments.part.map_or(0..pairs, |part| part.of(pairs)),
+        threads: arguments.threads.map_or_else(cores, NonZeroUsize::get),
+    };
+    let mut output = Output::open(arguments.output.as_deref())?;
+    if arguments.part.is_none_or(|part| part.number == 1) {
+        output.write(matrix.table.head().as_bytes())?;
+    }
+    matrix.write(&mut output)?;
+    output.write(matrix.table.tail().as_bytes())?;
+    output.finish()?;
+    if reader.left_out {
+        return Err(Failure::Quiet);
+    }
+    Ok(())
+}

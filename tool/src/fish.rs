@@ -1,0 +1,56 @@
+//! Fish, and the choice of the two that are compared.
+
+use crate::failure::Failure;
+use sigxume::{record_words, write, Refusal};
+
+/// A fish's number and its sequence, which the core has accepted.
+pub struct Fish {
+    pub id: u16,
+    pub sequence: Vec<u32>,
+}
+
+impl Fish {
+    /// Its record, by the core's writer.
+    pub fn record(&self) -> Result<Vec<u32>, Refusal> {
+        let mut record = vec![0; record_words(self.sequence.len())];
+        write(self.id, &self.sequence, &mut record)?;
+        Ok(record)
+    }
+}
+
+/// The two that are compared: those named, or all that there are.
+pub fn pair(fish: &[Fish], named: Option<[u16; 2]>) -> Result<[&Fish; 2], Failure> {
+    match (named, fish) {
+        (None, [first, second]) => Ok([first, second]),
+        (None, [_]) => message("there is 1 fish: two are wanted".into()),
+        (None, []) => message("there are 0 fish: two are wanted".into()),
+        (None, _) => message(format!(
+            "there are {} fish: name two of them by --fish A,B",
+            fish.len()
+        )),
+        (Some([first, second]), _) if first == second => {
+            let [first, second] = numbered(fish, first)?;
+            Ok([first, second])
+        }
+        (Some([first, second]), _) => {
+            let [first] = numbered(fish, first)?;
+            let [second] = numbered(fish, second)?;
+            Ok([first, second])
+        }
+    }
+}
+
+/// The fish with a number, of which there must be just so many.
+fn numbered<const N: usize>(fish: &[Fish], id: u16) -> Result<[&Fish; N], Failure> {
+    let found = Vec::from_iter(fish.iter().filter(|fish| fish.id == id));
+    let times = match found.len() {
+        0 => return message(format!("there is no fish {id}")),
+        1 => "1 time".into(),
+        count => format!("{count} times"),
+    };
+    <[&Fish; N]>::try_from(found).or_else(|_| message(format!("fish {id} is there {times}")))
+}
+
+fn message<T>(message: String) -> Result<T, Failure> {
+    Err(Failure::Message(message))
+}

@@ -1,0 +1,279 @@
+//! The help texts.
+
+/// What several texts say.
+macro_rules! shared {
+    (text) => {
+        "\
+The text form
+  One line a fish: its number, then its codes, ? for a no-call, with one space
+  between. Numbers are 0 to 65535. Each line ends in a newline, the last one
+  too. Nothing else: no blank lines, no other blanks, no leading zeros, no
+  comments. A sequence has at most 2,048 words, a word being a code or ?.
+  Two fish, the second with a no-call:
+
+    12 3 1 1 2 1 1 4
+    13 2 1 ? 4 3 1
+"
+    };
+    (records) => {
+        "\
+Records
+  A record is what the laboratory calls a strip: a fish's number and its
+  sequence, in words of four bytes. A file holds records one after another.
+"
+    };
+    (minimum) => {
+        "\
+The minimum
+  A tile is a stretch of words that is the same in both fish. Only tiles of at
+  least N words count, N from 1 to 256. A small N finds short common stretches,
+  of which many are chance; a large N finds only long ones.
+"
+    };
+    (pair) => {
+        "\
+Operands
+  One file that holds both fish, or two files with one each. A file is text or
+  records; the tool sees which ('sigxume encode --help' tells of both). - is
+  standard input. Where there are more than two fish, --fish names the two.
+"
+    };
+    (output) => {
+        "  -o, --output FILE   write to FILE and not to standard output; if something
+                      goes wrong, FILE stays as it was\n"
+    };
+    (help) => {
+        "  -h, --help          this text\n"
+    };
+    (status) => {
+        "\
+Exit status
+  0  all is well
+  1  input was refused or could not be read, or output could not be written;
+     standard error says why, and nothing is written
+  2  the command line is wrong
+"
+    };
+}
+
+pub const GENERAL: &str = concat!(
+    "\
+sigxume compares trout by their motif sequences: it finds the stretches that
+are the same in two fish, and scores the pair from 0 to 1000.
+
+Usage: sigxume SUBCOMMAND [OPTION...] [FILE...]
+
+Subcommands
+  encode   turns text into records
+  decode   turns records into text
+  compare  compares two fish: lists what they share, and the score
+  plot     compares two fish: draws what they share, as an SVG picture
+  matrix   compares every two of many fish: a table of scores, as CSV
+  help     shows help; 'sigxume help compare' is 'sigxume compare --help'
+
+Options
+  -h, --help     this text
+  -V, --version  the version
+
+Where to begin
+  Write a file fish.txt with two lines, one for each fish: the fish's number,
+  then its codes, ? where nothing was called.
+
+    12 3 1 1 2 1 1 4
+    13 2 1 1 4 3 1 1 1 1 2 1 1
+
+  Then compare them, counting every common stretch of one word or more:
+
+    sigxume compare -m 1 fish.txt
+
+",
+    shared!(records),
+    "\n",
+    shared!(status)
+);
+
+pub const ENCODE: &str = concat!(
+    "\
+Turns text into records.
+
+Usage: sigxume encode [-o FILE] [FILE...]
+
+Operands
+  Files of text, taken one after another; - or none at all is standard input.
+
+Options
+",
+    shared!(output),
+    shared!(help),
+    "
+Records are binary and not for a screen: name a file by -o, or pass them on.
+
+",
+    shared!(text),
+    "
+  sigxume decode gives such a file back byte for byte.
+
+",
+    shared!(records),
+    "\n",
+    shared!(status),
+    "
+Examples
+  sigxume encode -o fish.rec fish.txt
+  sigxume encode fish.txt | sigxume decode
+"
+);
+
+pub const DECODE: &str = concat!(
+    "\
+Turns records into text.
+
+Usage: sigxume decode [-o FILE] [FILE...]
+
+Operands
+  Files of records, taken one after another; - or none at all is standard
+  input.
+
+Options
+",
+    shared!(output),
+    shared!(help),
+    "\n",
+    shared!(text),
+    "\n",
+    shared!(records),
+    "\n",
+    shared!(status),
+    "
+Examples
+  sigxume decode fish.rec
+  sigxume decode -o fish.txt fish.rec
+"
+);
+
+pub const COMPARE: &str = concat!(
+    "\
+Compares two fish: lists the stretches that they share, and the score.
+
+Usage: sigxume compare -m N [--fish A,B] [--json] [-o FILE] FILE [FILE]
+
+",
+    shared!(pair),
+    "
+Options
+  -m, --minimum N     the least words of a tile; it must be given
+      --fish A,B      compare fish A with fish B
+      --json          JSON in place of the listing
+",
+    shared!(output),
+    shared!(help),
+    "\n",
+    shared!(minimum),
+    "
+The listing
+  FISH 12 13         the two fish
+  MINIMUM 1          the minimum
+  TILES 3            so many tiles; a line for each, from the longest:
+  1 7 5 6            it starts at position 1 of the first fish and 7 of the
+                     second (the first position is 0), has 5 words, and lies 6
+                     further on in the second
+  0 4 1 4
+  6 3 1 -3           this one lies 3 further back in the second
+  COVERED 7 OF 7 12  the tiles cover 7 words, of 7 and of 12
+  SCORE 736          2000 times 7, divided by 7 plus 12: from 0 to 1000
+
+",
+    shared!(status),
+    "
+Examples
+  sigxume compare -m 1 fish.txt
+  sigxume compare -m 8 --fish 12,13 --json fish.txt
+"
+);
+
+pub const PLOT: &str = concat!(
+    "\
+Compares two fish: draws the stretches that they share, as an SVG picture,
+which every web browser shows.
+
+Usage: sigxume plot -m N [--fish A,B] [-o FILE] FILE [FILE]
+
+",
+    shared!(pair),
+    "
+Options
+  -m, --minimum N     the least words of a tile; it must be given
+      --fish A,B      compare fish A with fish B
+",
+    shared!(output),
+    shared!(help),
+    "\n",
+    shared!(minimum),
+    "
+The picture
+  The first fish runs from left to right, the second from top to bottom. Each
+  tile is a slanting line. The thin blue ones are in the same order in both
+  fish; the thick orange ones have moved. The bands along the edges show what
+  the tiles cover. A browser tells more where the mouse rests on a line.
+
+",
+    shared!(status),
+    "
+Examples
+  sigxume plot -m 1 -o fish.svg fish.txt
+  sigxume plot -m 8 --fish 12,13 -o fish.svg fish.txt
+"
+);
+
+pub const MATRIX: &str = concat!(
+    "\
+Compares every two of many fish: a table of scores, as CSV, which every
+spreadsheet opens.
+
+Usage: sigxume matrix -m N [OPTION...] PATH...
+
+Operands
+  Files of text or records; the tool sees which ('sigxume encode --help' tells
+  of both). - is standard input. Of a folder all files are taken, in the order
+  of their names, but not those whose names begin with a dot.
+
+Options
+  -m, --minimum N     the least words of a tile; it must be given
+      --pairs         a line for each pair, in place of the table
+      --part K/N      with --pairs: part K of N, so that N machines can share
+                      the work; the parts one after another are the whole
+  -k, --keep-going    leave out what is bad, and say so
+      --threads N     use N threads; otherwise as many as there are cores
+",
+    shared!(output),
+    shared!(help),
+    "\n",
+    shared!(minimum),
+    "
+The table
+  A row and a column for each fish, in the order read. Each pair is there once,
+  in the row of the earlier fish and the column of the later one:
+
+    fish,12,13,14
+    12,,736,500
+    13,,,800
+    14,,,
+
+  With --pairs, the row and the column are counted from 1:
+
+    row,column,first,second,tiles,covered,score
+    1,2,12,13,3,7,736
+
+With --keep-going
+  Of a file of text only the bad lines are left out; of a file of records the
+  bad one and all after it; a file that cannot be read, whole. The rest is
+  compared and written, and the exit status is 1.
+
+",
+    shared!(status),
+    "
+Examples
+  sigxume matrix -m 8 -o scores.csv fish.txt
+  sigxume matrix -m 8 --pairs fish.txt
+"
+);

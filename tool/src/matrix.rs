@@ -1,0 +1,138 @@
+//! Every pair of fish: the comparisons are shared out among threads, and their text is written in order.
+
+use crate::failure::Failure;
+use crate::output::Output;
+use crate::pairs::Pairs;
+use crate::progress::Progress;
+use crate::table::Table;
+use sigxume::{Comparer, Refusal};
+use std::collections::BTreeMap;
+use std::iter;
+use std::ops::Range;
+use std::sync::mpsc::{channel, Receiver, Sender};
+use std::sync::{Mutex, PoisonError};
+use std::thread::{self, Builder};
+
+pub struct Matrix<'a> {
+    pub table: Table<'a>,
+    pub minimum: u32,
+    /// The numbers of the pairs that are compared.
+    pub pairs: Range<usize>,
+    pub threads: usize,
+}
+
+/// The most pairs in a chunk.
+const MOST: usize = 32;
+
+/// The chunks for each thread that may be out at a time.
+const OUT: usize = 64;
+
+/// Pairs that a thread compares in one go, with their place in the order.
+type Chunk = (usize, Vec<(usize, usize)>);
+
+/// The text of a chunk, or why there is none.
+type Answer = (usize, Result<String, Refusal>);
+
+impl Matrix<'_> {
+    /// Compares the pairs and writes them.
+    pub fn write(&self, output: &mut Output) -> Result<(), Failure> {
+        let total = self.pairs.len();
+        let size = (total / self.threads / 16).clamp(1, MOST);
+        let threads = self.threads.min(total.div_ceil(size));
+        let mut pairs = Pairs::from(self.table.fish.len(), self.pairs.start).take(total);
+        let chunks = iter::repeat_with(|| Vec::from_iter(pairs.by_ref().take(size)));
+        let mut chunks = chunks.enumerate().take(total.div_ceil(size));
+
+        let (queue, queued) = channel();
+        for chunk in chunks.by_ref().take(OUT * threads) {
+            send(&queue, chunk);
+        }
+        let queued = Mutex::new(queued);
+        let (answer, answers) = channel();
+        thread::scope(|scope| {
+            for _ in 0..threads {
+                let answer = answer.clone();
+                let work = || self.compare_chunks(&queued, answer);
+                if Builder::new().spawn_scoped(scope, work).is_err() {
+                    // The system gives no more threads: those that there are do it all.
+                    break;
+                }
+            }
+            drop(answer);
+            // The queue ends here, and so do the threads, whether all is written or writing has failed.
+            self.collect(chunks, size, queue, answers, output)
+        })
+    }
+
+    /// Writes the answers in order. For each that has found its place a new chunk goes into the queue: so no thread
+    /// runs far ahead, and memory stays bounded however long one chunk takes.
+    fn collect(
+        &self,
+        mut chunks: impl Iterator<Item = Chunk>,
+        size: usize,
+        queue: Sender<Chunk>,
+        answers: Receiver<Answer>,
+        output: &mut Output,
+    ) -> Result<(), Failure> {
+        let total = self.pairs.len();
+        let mut progress = Progress::new(total);
+        let mut early = BTreeMap::new();
+        let mut next = 0;
+        let mut text = String::new();
+        while next * size < total {
+            let Ok((number, answer)) = answers.recv() else {
+                return Err(Failure::Message("no thread could be started".into()));
+            };
+            early.insert(number, answer?);
+            while let Some(answer) = early.remove(&next) {
+                text += &answer;
+                next += 1;
+                if let Some(chunk) = chunks.next() {
+                    send(&queue, chunk);
+                }
+            }
+            if progress.due() {
+                // Whole lines only, so that the bar never stands in one.
+                let whole = text.rfind('\n').map_or(0, |at| at + 1);
+                progress.wipe();
+                output.write(&text.as_bytes()[..whole])?;
+                text.drain(..whole);
+                progress.draw((next * size).min(total));
+            }
+        }
+        drop(progress);
+        output.write(text.as_bytes())
+    }
+
+    fn compare_chunks(&self, queue: &Mutex<Receiver<Chunk>>, answer: Sender<Answer>) {
+        let mut comparer = Comparer::new();
+        loop {
+            let chunk = queue.lock().unwrap_or_else(PoisonError::into_inner).recv();
+            let Ok((number, pairs)) = chunk else {
+                return;
+            };
+            let text = self.compare_pairs(&mut comparer, &pairs);
+            if answer.send((number, text)).is_err() {
+                return;
+            }
+        }
+    }
+
+    fn compare_pairs(
+        &self,
+        comparer: &mut Comparer,
+        pairs: &[(usize, usize)],
+    ) -> Result<String, Refusal> {
+        let mut text = String::new();
+        for &(row, column) in pairs {
+            let [first, second] = [row, column].map(|at| &self.table.fish[at].sequence);
+            let tiling = comparer.compare(first, second, self.minimum)?;
+            self.table.pair(&mut text, row, column, &tiling);
+        }
+        Ok(text)
+    }
+}
+
+fn send(queue: &Sender<Chunk>, chunk: Chunk) {
+    queue.send(chunk).expect("the other end stays to the last");
+}

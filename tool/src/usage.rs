@@ -1,0 +1,207 @@
+//! The command line: one table of options, and one parser for all subcommands.
+
+use std::ffi::{OsStr, OsString};
+use std::num::NonZeroUsize;
+use std::ops::RangeInclusive;
+use std::os::unix::ffi::OsStrExt;
+use std::path::PathBuf;
+use std::str::FromStr;
+use Takes::{Nothing, Value};
+
+/// What a command line asks of its subcommand.
+#[derive(Default)]
+pub struct Arguments {
+    pub minimum: u32,
+    pub output: Option<PathBuf>,
+    pub fish: Option<[u16; 2]>,
+    pub json: bool,
+    pub pairs: bool,
+    pub part: Option<Part>,
+    pub threads: Option<NonZeroUsize>,
+    pub keep_going: bool,
+    pub help: bool,
+    pub operands: Vec<OsString>,
+}
+
+/// The part `number` of `count`, counted from 1.
+#[derive(Clone, Copy)]
+pub struct Part {
+    pub number: u64,
+    pub count: u64,
+}
+
+/// What a subcommand takes: its options by their long names, and how many operands.
+pub struct Accepted {
+    pub options: &'static [&'static str],
+    pub operands: RangeInclusive<usize>,
+}
+
+struct Row {
+    long: &'static str,
+    short: Option<u8>,
+    takes: Takes,
+}
+
+/// An option either sets something or takes a value; the words say what it wants, and `None` that the value
+/// is not that.
+enum Takes {
+    Nothing(fn(&mut Arguments)),
+    Value(&'static str, fn(&mut Arguments, &OsStr) -> Option<()>),
+}
+
+const TABLE: [Row; 9] = [
+    Row {
+        long: "minimum",
+        short: Some(b'm'),
+        takes: Value("a number", |arguments, value| {
+            arguments.minimum = number(value.to_str()?)?;
+            Some(())
+        }),
+    },
+    Row {
+        long: "output",
+        short: Some(b'o'),
+        takes: Value("the name of a file", |arguments, value| {
+            arguments.output = Some(PathBuf::from(value));
+            (!value.is_empty()).then_some(())
+        }),
+    },
+    Row {
+        long: "fish",
+        short: None,
+        takes: Value("two fish's numbers, as in 12,13", |arguments, value| {
+            let (first, second) = value.to_str()?.split_once(',')?;
+            arguments.fish = Some([number(first)?, number(second)?]);
+            Some(())
+        }),
+    },
+    Row {
+        long: "json",
+        short: None,
+        takes: Nothing(|arguments| arguments.json = true),
+    },
+    Row {
+        long: "pairs",
+        short: None,
+        takes: Nothing(|arguments| arguments.pairs = true),
+    },
+    Row {
+        long: "part",
+        short: None,
+        takes: Value("K/N with K from 1 to N, as in 2/4", |arguments, value| {
+            let (part, count) = value.to_str()?.split_once('/')?;
+            let (number, count) = (number(part)?, number(count)?);
+            arguments.part = Some(Part { number, count });
+            (1..=count).contains(&number).then_some(())
+        }),
+    },
+    Row {
+        long: "threads",
+        short: None,
+        takes: Value("a number from 1", |arguments, value| {
+            arguments.threads = Some(number(value.to_str()?)?);
+            Some(())
+        }),
+    },
+    Row {
+        long: "keep-going",
+        short: Some(b'k'),
+        takes: Nothing(|arguments| arguments.keep_going = true),
+    },
+    Row {
+        long: "help",
+        short: Some(b'h'),
+        takes: Nothing(|arguments| arguments.help = true),
+    },
+];
+
+/// Digits only: Rust's own reading takes a sign too.
+fn number<T: FromStr>(text: &str) -> Option<T> {
+    let digits = text.bytes().all(|byte| byte.is_ascii_digit());
+    digits.then(|| text.parse().ok()).flatten()
+}
+
+/// Reads what stands after a subcommand, up to a wish for help, if there is one. The message of an error says
+/// what is wrong.
+pub fn parse(arguments: &[OsString], accepted: &Accepted) -> Result<Arguments, String> {
+    let mut rest = arguments.iter();
+    let mut parsed = Arguments::default();
+    let mut given = Vec::new();
+    while let Some(argument) = rest.next() {
+        if argument == "--" {
+            parsed.operands.extend(rest.cloned());
+            break;
+        }
+        let Some((spelled, attached)) = split(argument) else {
+            parsed.operands.push(argument.clone());
+            continue;
+        };
+        let shown = spelled.to_string_lossy();
+        let row = TABLE
+            .iter()
+            .filter(|row| row.long == "help" || accepted.options.contains(&row.long))
+            .find(|row| row.is(spelled))
+            .ok_or_else(|| format!("unknown option {shown}"))?;
+        if given.contains(&row.long) {
+            return Err(format!("{shown} is given twice"));
+        }
+        given.push(row.long);
+        match row.takes {
+            Nothing(set) => match attached {
+                None => set(&mut parsed),
+                Some(_) => return Err(format!("{shown} takes no value")),
+            },
+            Value(wanted, set) => {
+                let value = match attached {
+                    Some(value) => value,
+                    None => rest.next().ok_or(format!("{shown} wants {wanted}"))?,
+                };
+                set(&mut parsed, value).ok_or_else(|| {
+                    format!("{shown} wants {wanted}, not '{}'", value.to_string_lossy())
+                })?;
+            }
+        }
+        if parsed.help {
+            return Ok(parsed);
+        }
+    }
+    if accepted.options.contains(&"minimum") && !given.contains(&"minimum") {
+        return Err("the minimum is missing: -m N".into());
+    }
+    if parsed.part.is_some() && !parsed.pairs {
+        return Err("--part goes with --pairs only".into());
+    }
+    let [least, most] = [accepted.operands.start(), accepted.operands.end()];
+    match parsed.operands.len() {
+        found if found < *least => Err("no file is named".into()),
+        found if found > *most => Err(format!("{found} files are named, at most {most} are taken")),
+        _ => Ok(parsed),
+    }
+}
+
+impl Row {
+    /// Whether an option is spelled so: `-m` or `--minimum`.
+    fn is(&self, spelled: &OsStr) -> bool {
+        match spelled.as_bytes() {
+            [b'-', b'-', long @ ..] => long == self.long.as_bytes(),
+            [b'-', short] => self.short == Some(*short),
+            _ => false,
+        }
+    }
+}
+
+/// An option as it is spelled, and the value that is attached to it: `-m8`, `--minimum=8`. An operand is
+/// `None`.
+fn split(argument: &OsStr) -> Option<(&OsStr, Option<&OsStr>)> {
+    let bytes = argument.as_bytes();
+    let (spelled, attached) = match bytes {
+        [b'-', b'-', ..] => match bytes.iter().position(|byte| *byte == b'=') {
+            Some(at) => (&bytes[..at], Some(&bytes[at + 1..])),
+            None => (bytes, None),
+        },
+        [b'-', _] => (bytes, None),
+        [b'-', _, ..] => (&bytes[..2], Some(&bytes[2..])),
+        _ => return None,
+    };
+    Some((OsStr::from_bytes(spelled), attached.map(OsStr::from_bytes)))
+}
