@@ -1,13 +1,12 @@
 //! `matrix` on 64 records of 2,048 words: all 2,016 pairs.
 
 use super::fish::{records, text, Fish};
-use super::results::{Cell, Compared, Matrix};
+use super::results::{Compared, Matrix};
 use super::{Expected, Tool};
 use crate::group::Group;
 use crate::pairs::{calls, related};
 use crate::reference::{tiling, MAX_WORDS};
 use crate::samples::NO_CALL;
-use crate::wise;
 
 const MINIMUM: u32 = 12;
 
@@ -37,26 +36,14 @@ fn families(g: &mut Group) -> Vec<Fish> {
     all
 }
 
-/// Tiles by the port of Wise's program.
-fn compared<'a>(first: &'a Fish, second: &'a Fish) -> Compared<'a> {
-    let minimum = MINIMUM as usize;
-    let (tiles, _) = wise::tiling(&first.words, &second.words, minimum, 20);
-    Compared {
-        first,
-        second,
-        minimum: MINIMUM,
-        tiles,
-    }
-}
-
 /// Tables, lists and parts, by any number of threads, from a folder and from one file.
 pub fn large(g: &mut Group) {
     let tool = Tool::new(g);
     let all = families(g);
-    let matrix = Matrix::by(&all, |first, second| Cell::of(&compared(first, second)));
+    let matrix = Matrix::new(&all, MINIMUM);
     for (a, b) in [(0, 7), (3, 5), (8, 40), (63, 1)] {
         let literal = tiling(&all[a].words, &all[b].words, MINIMUM as usize);
-        let tiles = compared(&all[a], &all[b]).tiles;
+        let tiles = Compared::new(&all[a], &all[b], MINIMUM).tiles;
         g.equal(format_args!("fish {a} and {b}"), tiles, literal);
     }
     // The families show: the pairs within one have the higher scores.

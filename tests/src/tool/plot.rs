@@ -33,7 +33,7 @@ for n in range(int(open('count').read())):
     print('outside', len(outside), len(scripts), '<!' in re.sub(r'<!--.*?-->', '', raw, flags=re.S), '@import' in raw)
     print('decimals', bool(re.search(r'\.\d{7}', raw)), 'nan' in raw.lower(), 'inf' in raw)
     groups = [e for e in every if e.get('id') == 'tiles']
-    print('groups', *(e.tag == ns + 'g' for e in groups))
+    print('groups', *(e.tag == ns + 'g' and 'scale(' in e.get('transform', '') for e in groups))
     def tile(e): return e.tag == ns + 'line' and 'tile' in e.get('class', '').split()
     print('tiles', sum(map(tile, every)))
     for group in groups:
@@ -143,11 +143,14 @@ fn check(g: &mut Group, case: Arguments, printed: &str, compared: &Compared) {
         g.equal(case, says(&all, word, number), true);
     }
     let moved = tiles.len() - kept.len();
-    for number in [tiles.len(), kept.len(), moved] {
-        let plain = all.replace(", ", "; ").replace(',', "");
-        let mut numbers = plain.split(|c: char| !c.is_ascii_digit());
-        let found = numbers.any(|word| word == number.to_string());
-        g.equal(format_args!("{case}: {number} in the legend"), found, true);
+    for (words, number) in [("in order", kept.len()), ("moved", moved)] {
+        let found = texts.iter().any(|text| {
+            let plain = text.replace(',', "");
+            let mut numbers = plain.split(|c: char| !c.is_ascii_digit());
+            text.contains(words) && numbers.any(|word| word == number.to_string())
+        });
+        let case = format_args!("{case}: {number} {words} in the legend");
+        g.equal(case, found, true);
     }
 }
 

@@ -2,12 +2,10 @@
 
 use super::fish::{fish, records, text};
 use super::matrix::related_fish;
-use super::results::{Cell, Matrix};
+use super::results::Matrix;
 use super::{differing, Tool, TOOL};
 use crate::group::Group;
 use crate::process::lossy;
-use crate::reference::{covered, score};
-use crate::wise;
 use std::process::{Command, Stdio};
 
 /// What a command writes to a pseudo-terminal, and its status.
@@ -81,15 +79,7 @@ pub fn progress(g: &mut Group) {
     for one in &mut all {
         one.words.extend(fish(&mut g.random, 300).words);
     }
-    let matrix = Matrix::by(&all, |first, second| {
-        let (tiles, _) = wise::tiling(&first.words, &second.words, 1, 20);
-        let covered = covered(&tiles);
-        Cell {
-            tiles: tiles.len(),
-            covered,
-            score: score(covered, first.words.len(), second.words.len()),
-        }
-    });
+    let matrix = Matrix::new(&all, 1);
     let (table, list) = (matrix.table(), matrix.whole_list());
     tool.put("fish", records(&all));
     for (option, made) in [("", &table), ("--pairs", &list), ("--threads=1", &table)] {

@@ -2,6 +2,10 @@
 
 use super::fish::Fish;
 use crate::reference::{self, covered, score, tiling, Tile};
+use crate::wise;
+
+/// The most words of a sequence that is compared by the literal tiling.
+const LITERAL: usize = 300;
 
 /// Two fish and their tiles in the order laid.
 pub struct Compared<'a> {
@@ -12,9 +16,13 @@ pub struct Compared<'a> {
 }
 
 impl<'a> Compared<'a> {
-    /// By the literal tiling.
+    /// By the literal tiling; by the port of Wise's program where that would take long.
     pub fn new(first: &'a Fish, second: &'a Fish, minimum: u32) -> Self {
-        let tiles = tiling(&first.words, &second.words, minimum as usize);
+        let (a, b, least) = (&first.words, &second.words, minimum as usize);
+        let tiles = match a.len().max(b.len()) {
+            0..=LITERAL => tiling(a, b, least),
+            _ => wise::tiling(a, b, least, least.max(20)).0,
+        };
         Self {
             first,
             second,
@@ -100,21 +108,13 @@ pub struct Matrix {
 }
 
 impl Matrix {
-    /// By the literal tiling.
     pub fn new(fish: &[Fish], minimum: u32) -> Self {
-        Self::by(fish, |first, second| {
-            Cell::of(&Compared::new(first, second, minimum))
-        })
-    }
-
-    /// By any comparison.
-    pub fn by(fish: &[Fish], compare: impl Fn(&Fish, &Fish) -> Cell) -> Self {
-        let ids = fish.iter().map(|fish| fish.id).collect();
-        let cells = pairs(fish.len());
-        let cells = cells.map(|(row, column)| compare(&fish[row], &fish[column]));
+        let cell = |(row, column): (usize, usize)| {
+            Cell::of(&Compared::new(&fish[row], &fish[column], minimum))
+        };
         Self {
-            ids,
-            cells: cells.collect(),
+            ids: fish.iter().map(|fish| fish.id).collect(),
+            cells: pairs(fish.len()).map(cell).collect(),
         }
     }
 
