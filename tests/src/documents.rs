@@ -2,7 +2,8 @@
 
 use crate::group::Group;
 use crate::process::{self, lossy, AT_ONCE};
-use crate::tool::{differing, Tool, PROGRAMS};
+use crate::tool::expected::differing;
+use crate::tool::{Tool, PROGRAMS};
 use std::fs;
 use std::path::Path;
 use std::process::Command;

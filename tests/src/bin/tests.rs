@@ -6,7 +6,7 @@
 use sigxume_tests::comparisons::{self, laws, limits, mistakes, restarts, settings};
 use sigxume_tests::group::Group;
 use sigxume_tests::tool::{
-    bad_lines, bad_records, compare, json, matrix, matrix_bad, matrix_large, output, plot,
+    bad_lines, bad_records, compare, json, matrix, matrix_bad, matrix_large, options, output, plot,
     progress, round_trips, usage,
 };
 use sigxume_tests::{baselines, documents, hashes, known, program, records, words};
@@ -17,7 +17,7 @@ use std::thread;
 type Row = (&'static str, u64, fn(&mut Group));
 
 #[rustfmt::skip]
-const GROUPS: [Row; 73] = [
+const GROUPS: [Row; 74] = [
     ("reference: known pairs", 1, known::pairs),
     ("reference: known windows", 2, known::windows),
     ("reference: worked example", 3, known::example),
@@ -88,9 +88,10 @@ const GROUPS: [Row; 73] = [
     ("tool: matrix, bad input", 68, matrix_bad::bad_input),
     ("tool: matrix, 64 records", 69, matrix_large::large),
     ("tool: output", 70, output::output),
-    ("tool: usage", 71, usage::usage),
-    ("tool: progress", 72, progress::progress),
-    ("documents: commands", 73, documents::commands_run),
+    ("tool: options", 71, options::options),
+    ("tool: usage", 72, usage::usage),
+    ("tool: progress", 73, progress::progress),
+    ("documents: commands", 74, documents::commands_run),
 ];
 
 fn main() -> ExitCode {

@@ -1,8 +1,9 @@
 //! Text that is not as it must be: the place of the first fault, and that nothing is written.
 
+use super::expected::{Expected, Line};
 use super::faults::{first, lines, Fault};
 use super::fish::{any_fishes, fish, text, Fish};
-use super::{Expected, Tool};
+use super::Tool;
 use crate::group::Group;
 use crate::random::Random;
 use crate::reference::MAX_WORDS;
@@ -169,9 +170,7 @@ pub fn bad_lines(g: &mut Group) {
     tool.put("good.txt", &good);
     tool.put("bad.txt", "1 2\n3 4 x\n");
     tool.put("worse.txt", "x\n");
-    let expected = Expected::fails(super::Line::Begins(
-        "sigxume: bad.txt, line 2, column 5: ".into(),
-    ));
+    let expected = Expected::fails(Line::Begins("sigxume: bad.txt, line 2, column 5: ".into()));
     let args = ["encode", "good.txt", "bad.txt", "worse.txt"];
     tool.expect_failure(g, format_args!("first bad file"), &args, b"", &expected);
     let late = [&b"1 2 3 4 5\n".repeat(100_000)[..], b"6 7 08\n"].concat();

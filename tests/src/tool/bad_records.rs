@@ -1,8 +1,9 @@
 //! Records that are refused: which one, where it begins, and why; and that nothing is written.
 
+use super::expected::Expected;
 use super::faults::{first, records as read, Fault};
 use super::fish::{any_fish, fish, records, text, Fish};
-use super::{Expected, Tool};
+use super::Tool;
 use crate::group::Group;
 use crate::program::bytes;
 use crate::reference::{header, record, sealed, CUT, HEADER, MAX_WORDS, TRAILER, UNSOUND};

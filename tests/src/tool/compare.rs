@@ -1,9 +1,11 @@
 //! `compare`: the listing of two fish, however they are stored and chosen.
 
+use super::choice;
+use super::expected::{differing, Expected, Line};
 use super::faults::{first, lines, records as read, refusal};
 use super::fish::{records, text, Fish};
 use super::results::Compared;
-use super::{differing, Expected, Line, Tool};
+use super::Tool;
 use crate::group::Group;
 use crate::known;
 use crate::pairs::{any_pair, distinct, related};
@@ -89,76 +91,6 @@ fn as_the_program(g: &mut Group, tool: &Tool, case: Arguments, pair: &[Fish; 2],
     g.equal(format_args!("{case}: pair program"), difference, None);
 }
 
-/// Which two of several fish are compared.
-fn chosen(g: &mut Group, tool: &Tool) {
-    let words = |letters: &str| known::letters(letters);
-    let all = [
-        (12, "caabaad"),
-        (13, "baadcaaaabaa"),
-        (12, "abcde"),
-        (7, ""),
-        (65_535, "cdeab"),
-    ];
-    let all = all.map(|(id, name)| Fish::new(id, &words(name)));
-    tool.put("all.txt", text(&all));
-    tool.put("all", records(&all));
-    tool.put("front", records(&all[..2]));
-    tool.put("back.txt", text(&all[2..]));
-    let sources = [&["all.txt"][..], &["all"], &["front", "back.txt"]];
-    let is = |line: &str| Expected::fails(Line::Is(format!("sigxume: {line}")));
-    let listing =
-        |a: usize, b: usize| Expected::prints(Compared::new(&all[a], &all[b], 1).listing());
-    let mut rows = vec![
-        ("13,65535", listing(1, 4)),
-        ("65535,13", listing(4, 1)),
-        ("7,13", listing(3, 1)),
-        ("13,7", listing(1, 3)),
-        ("12,12", listing(0, 2)),
-        ("99,13", is("there is no fish 99")),
-        ("13,0", is("there is no fish 0")),
-        ("99,99", is("there is no fish 99")),
-        ("12,13", is("fish 12 is there 2 times")),
-        ("13,12", is("fish 12 is there 2 times")),
-    ];
-    let once = Line::Begins("sigxume: fish 13 is there ".into());
-    rows.push(("13,13", Expected::fails(once)));
-    for source in sources {
-        for (names, expected) in &rows {
-            for option in [&["--fish", names][..], &[&format!("--fish={names}")]] {
-                let args = [&["compare", "-m", "1"], option, source].concat();
-                let case = format_args!("fish {names}");
-                if expected.status == 0 {
-                    tool.expect(g, case, &args, b"", expected);
-                } else {
-                    tool.expect_failure(g, case, &args, b"", expected);
-                }
-            }
-        }
-        let args = [&["compare", "-m1"], source].concat();
-        let expected = is("there are 5 fish: name two of them by --fish A,B");
-        tool.expect_failure(g, format_args!("five fish"), &args, b"", &expected);
-    }
-    let case = format_args!("three times the same");
-    let three = text(&[all[0].clone(), all[0].clone(), all[0].clone()]);
-    let expected = is("fish 12 is there 3 times");
-    let args = ["compare", "--fish", "12,12", "-m", "1", "-"];
-    tool.expect(g, case, &args, &three, &expected);
-    let expected = is("there are 3 fish: name two of them by --fish A,B");
-    tool.expect(g, case, &["compare", "-m", "1", "-"], &three, &expected);
-    for count in [0, 1] {
-        let expected = Expected::fails(Line::Begins("sigxume: ".into()));
-        for form in [text, records] {
-            let case = format_args!("{count} fish");
-            let args = ["compare", "-m", "1", "-"];
-            tool.expect_failure(g, case, &args, &form(&all[..count]), &expected);
-        }
-    }
-    // A file twice has its fish twice.
-    tool.put("one", records(&all[1..2]));
-    let args = ["compare", "-m", "1", "one", "one"];
-    tool.expect(g, format_args!("the same file"), &args, b"", &listing(1, 1));
-}
-
 /// Minimums that are refused, after the input has been read.
 fn minimums(g: &mut Group, tool: &Tool) {
     let (pair, _) = any_fish_pair(g);
@@ -197,12 +129,13 @@ fn bad(g: &mut Group, tool: &Tool) {
             tool.expect_failure(g, case, &args, b"", &Expected::fails(fault.line("bad")));
         }
     }
-    let damaged: [&[u8]; 8] = [
+    let damaged: [&[u8]; 9] = [
         b"12 3\n\0",
         b"12 3\n\x1B",
         b"12 3\n\x7F",
         b"\x0B12 3\n",
         b"12 3\xFF\n",
+        b"12 3\xC2\x85\n",
         b"\0",
         &[0; 8],
         &bytes(&[1, call(1), 0xC000_0000]),
@@ -255,7 +188,8 @@ pub fn compare(g: &mut Group) {
         let case = format_args!("larger pair {number}");
         as_the_program(g, &tool, case, pair, *minimum);
     }
-    chosen(g, &tool);
+    choice::chosen(g, &tool);
+    choice::very_many(g, &tool);
     minimums(g, &tool);
     bad(g, &tool);
 }

@@ -1,7 +1,7 @@
 //! What is wrong in a file, and where: text by its own rules, records by the reference's reading.
 
+use super::expected::Line;
 use super::fish::Fish;
-use super::Line;
 use crate::reference::{self, CUT, MAX_WORDS, TOO_LONG};
 use crate::samples::{call, NO_CALL};
 use sigxume::Refusal;

@@ -1,11 +1,12 @@
 //! `compare --json`: the text byte for byte, and what a stock parser reads in it.
 
 use super::compare::{any_fish_pair, larger};
+use super::expected::{differing, Expected, Line};
 use super::faults::refusal;
 use super::fish::{records, text, Fish};
 use super::python;
 use super::results::Compared;
-use super::{Expected, Line, Tool};
+use super::Tool;
 use crate::group::Group;
 use crate::known;
 use crate::reference::MINIMUM;
@@ -79,7 +80,7 @@ pub fn json(g: &mut Group) {
     }
     tool.put("texts", &printed);
     let read = python::run(SCRIPT, tool.folder());
-    let difference = read.map(|read| super::differing(read.as_bytes(), expected.as_bytes()));
+    let difference = read.map(|read| differing(read.as_bytes(), expected.as_bytes()));
     g.equal(format_args!("read by Python"), difference, Ok(None));
     let example =
         "{\"fish\":[12,13],\"minimum\":2,\"lengths\":[7,12],\"tiles\":[{\"first\":1,\"second\":7,\

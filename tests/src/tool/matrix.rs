@@ -1,9 +1,10 @@
 //! `matrix` on good input: the table, the list of pairs and its parts.
 
+use super::expected::{differing, Expected, Line};
 use super::faults::refusal;
 use super::fish::{records, text, Fish};
 use super::results::Matrix;
-use super::{Expected, Line, Tool};
+use super::Tool;
 use crate::group::Group;
 use crate::known::letters;
 use crate::pairs::any_pair;
@@ -110,7 +111,7 @@ fn parts(g: &mut Group, tool: &Tool, all: &[Fish], minimum: u32) {
             );
         }
         let case = format_args!("{} fish, {of} parts joined", all.len());
-        let difference = super::differing(&joined, matrix.whole_list().as_bytes());
+        let difference = differing(&joined, matrix.whole_list().as_bytes());
         g.equal(case, difference, None);
     }
     // Numbers of parts whose products with the pairs have more than 64 bits.

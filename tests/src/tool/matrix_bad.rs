@@ -1,17 +1,19 @@
 //! `matrix` on bad input: without and with `--keep-going`.
 
+use super::expected::{differing, Expected, Line};
 use super::faults::{either, refusal};
 use super::fish::{any_fish, fish, records, text, Fish};
 use super::matrix::related_fish;
 use super::results::Matrix;
-use super::{Expected, Line, Tool};
+use super::unreadable;
+use super::Tool;
 use crate::group::Group;
 use crate::random::Random;
 use crate::reference::{MAX_WORDS, MINIMUM};
 use std::fmt::Arguments;
 
 /// A file's name in messages, and its bytes; or why there are none, as a line about it must have it.
-type File = (String, Result<Vec<u8>, Vec<String>>);
+pub type File = (String, Result<Vec<u8>, Vec<String>>);
 
 /// What a run over these files must end with: without and with `--keep-going`.
 fn expected(files: &[File], list: bool) -> [Expected; 2] {
@@ -59,7 +61,7 @@ fn expected(files: &[File], list: bool) -> [Expected; 2] {
 }
 
 /// Runs the tool over paths with these files, without and with `--keep-going`.
-fn check(
+pub fn check(
     g: &mut Group,
     tool: &Tool,
     case: Arguments,
@@ -88,7 +90,7 @@ fn check(
         };
         tool.expect(g, case, &args, input, &written);
         let out = tool.get("out");
-        let difference = out.map(|found| super::differing(&found, &kept.stdout));
+        let difference = out.map(|found| differing(&found, &kept.stdout));
         g.equal(format_args!("{case}: the file"), difference, Some(None));
         tool.remove("out");
     }
@@ -182,101 +184,6 @@ fn made(g: &mut Group, tool: &Tool) {
     }
 }
 
-/// Paths that cannot be read: missing ones, a folder in a folder, a link to nothing.
-fn unreadable(g: &mut Group, tool: &Tool) {
-    let all = related_fish(&mut g.random, 5);
-    let file = |name: &str, all: &[Fish]| (name.to_string(), Ok(records(all)));
-    let bad = |name: &str, part: &str| (name.to_string(), Err(vec![part.to_string()]));
-    tool.put("good", records(&all[..2]));
-    tool.remove("folder");
-    tool.put("folder/a", records(&all[2..3]));
-    tool.put("folder/b/inner", records(&all[3..4]));
-    tool.put("folder/c", records(&all[4..]));
-    tool.put("folder/.x", "x\n");
-    tool.put("folder/.y/z", "x\n");
-    let folder = [
-        file("folder/a", &all[2..3]),
-        bad("folder/b", "is a folder"),
-        file("folder/c", &all[4..]),
-    ];
-    let good = file("good", &all[..2]);
-    let missing = bad("missing", "missing");
-    check(
-        g,
-        tool,
-        format_args!("folder in a folder"),
-        &["folder"],
-        &folder,
-        b"",
-    );
-    check(
-        g,
-        tool,
-        format_args!("missing"),
-        &["missing"],
-        std::slice::from_ref(&missing),
-        b"",
-    );
-    let files = [&[good.clone(), missing.clone()], &folder[..]].concat();
-    let paths = ["good", "missing", "folder"];
-    check(
-        g,
-        tool,
-        format_args!("missing and folder"),
-        &paths,
-        &files,
-        b"",
-    );
-    let files = [&folder[..], &[missing, good.clone()]].concat();
-    let paths = ["folder", "missing", "good"];
-    check(
-        g,
-        tool,
-        format_args!("folder and missing"),
-        &paths,
-        &files,
-        b"",
-    );
-    let link = tool.folder().join("folder/b");
-    tool.remove("folder/b");
-    std::os::unix::fs::symlink("nothing", link).expect("a link can be made");
-    let files = [
-        folder[0].clone(),
-        bad("folder/b", ""),
-        folder[2].clone(),
-        good,
-    ];
-    let paths = ["folder", "good"];
-    check(
-        g,
-        tool,
-        format_args!("link to nothing"),
-        &paths,
-        &files,
-        b"",
-    );
-    // Hidden files are left out of a folder, but may be named.
-    tool.remove("folder/b");
-    let files = [folder[0].clone(), folder[2].clone()];
-    check(
-        g,
-        tool,
-        format_args!("hidden files"),
-        &["folder"],
-        &files,
-        b"",
-    );
-    let files = [("folder/.x".into(), Ok(b"x\n".to_vec()))];
-    check(
-        g,
-        tool,
-        format_args!("hidden file named"),
-        &["folder/.x"],
-        &files,
-        b"",
-    );
-}
-
 /// A refused minimum, after what was read.
 fn minimum(g: &mut Group, tool: &Tool) {
     let refused = Line::Is(format!("sigxume: {}", refusal(MINIMUM)));
@@ -299,7 +206,7 @@ fn minimum(g: &mut Group, tool: &Tool) {
 pub fn bad_input(g: &mut Group) {
     let tool = Tool::new(g);
     made(g, &tool);
-    unreadable(g, &tool);
+    unreadable::unreadable(g, &tool);
     minimum(g, &tool);
     random_damage(g, &tool);
 }

@@ -1,8 +1,9 @@
 //! `matrix` on 64 records of 2,048 words: all 2,016 pairs.
 
+use super::expected::Expected;
 use super::fish::{records, text, Fish};
 use super::results::{Compared, Matrix};
-use super::{Expected, Tool};
+use super::Tool;
 use crate::group::Group;
 use crate::pairs::{calls, related};
 use crate::reference::{tiling, MAX_WORDS};
@@ -79,4 +80,25 @@ pub fn large(g: &mut Group) {
     }
     let args = ["matrix", "-m", &minimum, "all"];
     tool.expect_written(g, format_args!("64 fish"), &args, b"", table.as_bytes());
+    many(g, &tool);
+}
+
+/// Very many fish of few words: rows must come in order whichever thread is first.
+fn many(g: &mut Group, tool: &Tool) {
+    let random = &mut g.random;
+    let all: Vec<Fish> = (0..300)
+        .map(|id| {
+            let length = random.pick(&[0, 1, 5, 12]);
+            Fish::new(id, &calls(random, length, 3))
+        })
+        .collect();
+    let matrix = Matrix::new(&all, 1);
+    tool.put("many.txt", text(&all));
+    for threads in ["1", "2", "9"] {
+        let args = ["matrix", "-m1", "--threads", threads, "many.txt"];
+        let case = format_args!("300 fish");
+        tool.expect(g, case, &args, b"", &Expected::prints(matrix.table()));
+        let args = [&args[..], &["--pairs"]].concat();
+        tool.expect(g, case, &args, b"", &Expected::prints(matrix.whole_list()));
+    }
 }

@@ -1,7 +1,8 @@
 //! Output that cannot be written.
 
+use super::expected::{Expected, Line};
 use super::fish::{fish, records, text};
-use super::{Expected, Line, Tool};
+use super::Tool;
 use crate::group::Group;
 use crate::process::lossy;
 use crate::reference::MAX_WORDS;

@@ -1,9 +1,10 @@
 //! The progress bar of `matrix`: at a terminal it is there and wiped in the end, elsewhere it is not.
 
+use super::expected::differing;
 use super::fish::{fish, records, text};
 use super::matrix::related_fish;
 use super::results::Matrix;
-use super::{differing, Tool, TOOL};
+use super::{Tool, TOOL};
 use crate::group::Group;
 use crate::process::lossy;
 use std::process::{Command, Stdio};
@@ -113,7 +114,21 @@ pub fn progress(g: &mut Group) {
             );
         }
     }
+    left_out(g, &tool, &table);
     encode(g, &tool);
+}
+
+/// What is left out is said on lines of their own before the table.
+fn left_out(g: &mut Group, tool: &Tool, table: &str) {
+    tool.put("bad.txt", "x\n");
+    let ran = at_terminal(tool, &format!("{TOOL} matrix -m 1 -k fish bad.txt"));
+    let seen = ran.and_then(|(status, bytes)| {
+        let screen = shown(&bytes)?;
+        let (line, rest) = screen.split_once('\n').unwrap_or_default();
+        let right = line.starts_with("sigxume: left out: bad.txt, line 1, column 1: ");
+        Ok((status, right, rest == table.trim_end()))
+    });
+    g.equal(format_args!("left out"), seen, Ok((Some(1), true, true)));
 }
 
 /// `encode` prints no records at a terminal.

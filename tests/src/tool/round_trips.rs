@@ -1,7 +1,8 @@
 //! `encode` and `decode` on good input: text to records and back.
 
+use super::expected::Expected;
 use super::fish::{any_fishes, fish, limits, records, text, Fish};
-use super::{Expected, Tool};
+use super::Tool;
 use crate::group::Group;
 use crate::records::WORKED;
 use crate::reference::MAX_WORDS;

@@ -1,8 +1,9 @@
 //! Arguments that the tool refuses, its help and its version.
 
+use super::expected::{Expected, Line};
 use super::fish::records;
 use super::matrix::related_fish;
-use super::{Expected, Line, Tool};
+use super::Tool;
 use crate::group::Group;
 
 /// Each subcommand with its options.
@@ -54,11 +55,11 @@ const OPTIONS: [(&str, &[&str]); 5] = [
 
 /// Arguments after `compare`, `plot` and `matrix` alike.
 #[rustfmt::skip]
-const MINIMUMS: [&[&str]; 17] = [
+const MINIMUMS: [&[&str]; 18] = [
     &["a"], &["a", "-m"], &["a", "--minimum"], &["a", "-m", ""], &["a", "--minimum="], &["a", "-m", "x"],
     &["a", "-m", "-1"], &["a", "-m", "+1"], &["a", "-m", "1.5"], &["a", "-m", " 1"], &["a", "-m", "1 "],
     &["a", "-m", "0x1"], &["a", "-m", "4294967296"], &["a", "-m", "99999999999999999999999"],
-    &["a", "-mx"], &["a", "-m", "1", "-m", "1"], &["a", "-m1", "--minimum=2"],
+    &["a", "-mx"], &["a", "-m=1"], &["a", "-m", "1", "-m", "1"], &["a", "-m1", "--minimum=2"],
 ];
 
 /// Bad values of `--fish`.
