@@ -68,6 +68,10 @@ impl Group {
         }
     }
 
+    pub fn name(&self) -> &'static str {
+        self.name
+    }
+
     /// A case without a buffer: the result must be the one expected.
     pub fn equal<T: Debug + PartialEq>(&mut self, case: Arguments, result: T, expected: T) {
         self.cases += 1;

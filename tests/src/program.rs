@@ -3,6 +3,7 @@
 use crate::group::Group;
 use crate::known::{self, letters, LISTING};
 use crate::pairs::{any_pair, calls, distinct, related, unrelated, Pair};
+use crate::process::{self, first_difference, lossy, Pieces, AT_ONCE};
 use crate::records::WORKED;
 use crate::reference::{
     header, listing, pair_program, record, sealed, trailer, Tile, CUT, HEADER, MAX_MINIMUM,
@@ -10,9 +11,7 @@ use crate::reference::{
 };
 use crate::samples::{call, ids, sequence, sound_word, unsound_word, with, NO_CALL};
 use std::fmt::Arguments;
-use std::io::Write;
-use std::process::{Command, Stdio};
-use std::thread;
+use std::process::Command;
 use std::time::Duration;
 
 /// The program, which the gate builds.
@@ -33,57 +32,26 @@ pub fn worked() -> Vec<u32> {
 }
 
 /// The program's input for two sequences.
-fn input(minimum: u32, ids: [u16; 2], [first, second]: &Pair) -> Vec<u32> {
+pub fn input(minimum: u32, ids: [u16; 2], [first, second]: &Pair) -> Vec<u32> {
     let records = [record(ids[0], first), record(ids[1], second)];
     [&[minimum], &records.concat()[..]].concat()
 }
 
-/// What the program prints for these bytes, which it gets in pieces of one size with a pause after
-/// each; or why it did not run to its end.
-fn run(input: &[u8], piece: usize, pause: Duration) -> Result<String, String> {
-    let pipe = Stdio::piped;
-    let mut command = Command::new(PROGRAM);
-    let command = command.stdin(pipe()).stdout(pipe()).stderr(pipe());
-    let mut child = command.spawn().map_err(|error| {
+/// What the program prints for these bytes; or why it did not run to its end.
+pub fn run(input: &[u8], pieces: Pieces) -> Result<String, String> {
+    let output = process::run(&mut Command::new(PROGRAM), input, pieces).map_err(|error| {
         format!("{PROGRAM}: {error}; run `rt check` at the top of the repository first")
     })?;
-    let mut stdin = child.stdin.take().expect("the input is a pipe");
-    let output = thread::scope(|scope| {
-        scope.spawn(move || {
-            for piece in input.chunks(piece) {
-                // The program may end before it has read everything.
-                if stdin.write_all(piece).is_err() {
-                    return;
-                }
-                thread::sleep(pause);
-            }
-        });
-        child.wait_with_output()
-    });
-    let output = output.map_err(|error| error.to_string())?;
-    let text = |bytes: &[u8]| String::from_utf8_lossy(bytes).into_owned();
     if output.status.success() && output.stderr.is_empty() {
-        Ok(text(&output.stdout))
+        Ok(lossy(&output.stdout))
     } else {
-        Err(format!("{}, {}", output.status, text(&output.stderr)))
+        Err(format!("{}, {}", output.status, lossy(&output.stderr)))
     }
 }
 
-/// The first line in which two texts differ, as it is in each.
-fn first_difference<'a>(a: &'a str, b: &'a str) -> Option<(Option<&'a str>, Option<&'a str>)> {
-    let [a, b] = [a, b].map(|text| text.split_inclusive('\n').map(Some).chain([None]));
-    a.zip(b).find(|(a, b)| a != b)
-}
-
 /// The program gets its input at once or in pieces and must print what is expected.
-fn expect_in(
-    g: &mut Group,
-    case: Arguments,
-    input: &[u8],
-    (piece, pause): (usize, Duration),
-    expected: &str,
-) {
-    let printed = run(input, piece, pause);
+fn expect_in(g: &mut Group, case: Arguments, input: &[u8], pieces: Pieces, expected: &str) {
+    let printed = run(input, pieces);
     let difference = match &printed {
         Ok(printed) => Ok(first_difference(printed, expected)),
         Err(error) => Err(&error[..]),
@@ -93,7 +61,7 @@ fn expect_in(
 
 /// The program must print what is expected.
 fn expect(g: &mut Group, case: Arguments, input: &[u8], expected: &str) {
-    expect_in(g, case, input, (usize::MAX, Duration::ZERO), expected);
+    expect_in(g, case, input, AT_ONCE, expected);
 }
 
 /// The program must print what the reference does.

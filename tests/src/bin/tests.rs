@@ -1,10 +1,15 @@
-//! Compares the core's exported functions and the pair program with a reference made apart from the
-//! core. Each group prints a line with its name, its number of cases and its seed; a difference makes
-//! the exit status 1.
+//! Compares the core's exported functions, the pair program and the command-line tool with a reference made
+//! apart from the core, and the documents with what their commands print. Each group prints a line with its
+//! name, its number of cases and its seed; a difference makes the exit status 1. Arguments are parts of
+//! names: only the groups with one of them are then run.
 
 use sigxume_tests::comparisons::{self, laws, limits, mistakes, restarts, settings};
 use sigxume_tests::group::Group;
-use sigxume_tests::{baselines, hashes, known, library, program, records, words};
+use sigxume_tests::tool::{
+    bad_lines, bad_records, compare, json, matrix, matrix_bad, matrix_large, options, output, plot,
+    progress, round_trips, usage,
+};
+use sigxume_tests::{baselines, documents, hashes, known, library, program, records, words};
 use std::process::ExitCode;
 use std::thread;
 
@@ -12,7 +17,7 @@ use std::thread;
 type Row = (&'static str, u64, fn(&mut Group));
 
 #[rustfmt::skip]
-const GROUPS: [Row; 67] = [
+const GROUPS: [Row; 81] = [
     ("reference: known pairs", 1, known::pairs),
     ("reference: known windows", 2, known::windows),
     ("reference: worked example", 3, known::example),
@@ -64,13 +69,13 @@ const GROUPS: [Row; 67] = [
     ("restart: every length", 48, restarts::every_length),
     ("restart: a shorter block first", 49, restarts::shorter_first),
     ("restart: again and again", 50, restarts::in_a_row),
-    ("library: refusals", 61, library::refusals),
-    ("library: symbols", 62, library::symbols),
-    ("library: one record", 63, library::one_record),
-    ("library: records in a row", 64, library::rows),
-    ("library: comparisons", 65, library::comparisons),
-    ("library: one comparer", 66, library::comparer),
-    ("library: hashes", 67, library::hashes),
+    ("library: refusals", 75, library::refusals),
+    ("library: symbols", 76, library::symbols),
+    ("library: one record", 77, library::one_record),
+    ("library: records in a row", 78, library::rows),
+    ("library: comparisons", 79, library::comparisons),
+    ("library: one comparer", 80, library::comparer),
+    ("library: hashes", 81, library::hashes),
     ("program: known pairs", 51, program::known),
     ("program: random pairs", 52, program::random),
     ("program: larger pairs", 53, program::larger),
@@ -80,18 +85,42 @@ const GROUPS: [Row; 67] = [
     ("program: counts", 57, program::counts),
     ("program: what follows", 58, program::what_follows),
     ("program: in pieces", 59, program::in_pieces),
+    ("tool: encode and decode", 61, round_trips::encode_and_decode),
+    ("tool: bad lines", 62, bad_lines::bad_lines),
+    ("tool: bad records", 63, bad_records::bad_records),
+    ("tool: compare", 64, compare::compare),
+    ("tool: JSON", 65, json::json),
+    ("tool: plot", 66, plot::plot),
+    ("tool: matrix", 67, matrix::matrix),
+    ("tool: matrix, bad input", 68, matrix_bad::bad_input),
+    ("tool: matrix, 64 records", 69, matrix_large::large),
+    ("tool: output", 70, output::output),
+    ("tool: options", 71, options::options),
+    ("tool: usage", 72, usage::usage),
+    ("tool: progress", 73, progress::progress),
+    ("documents: commands", 74, documents::commands_run),
 ];
 
 fn main() -> ExitCode {
+    let parts: Vec<String> = std::env::args().skip(1).collect();
+    let wanted = |name: &str| parts.is_empty() || parts.iter().any(|part| name.contains(part));
+    let groups: Vec<Row> = GROUPS.into_iter().filter(|row| wanted(row.0)).collect();
+    if groups.is_empty() {
+        eprintln!("no group's name has {parts:?}");
+        return ExitCode::FAILURE;
+    }
     // No group depends on another. They run side by side and are printed in order.
     let good = thread::scope(|scope| {
-        let running = GROUPS.map(|(name, seed, cases)| {
-            scope.spawn(move || {
-                let mut group = Group::new(name, seed);
-                cases(&mut group);
-                group.finish()
+        let running: Vec<_> = groups
+            .into_iter()
+            .map(|(name, seed, cases)| {
+                scope.spawn(move || {
+                    let mut group = Group::new(name, seed);
+                    cases(&mut group);
+                    group.finish()
+                })
             })
-        });
+            .collect();
         running.into_iter().fold(true, |good, group| {
             let (lines, passed) = group.join().expect("a group ends");
             print!("{lines}");

@@ -1,0 +1,183 @@
+//! The command-line tool, run as a process in a folder of its own. What it must print is written here
+//! from its description, over the reference.
+
+pub mod bad_lines;
+pub mod bad_records;
+pub mod chain;
+pub mod choice;
+pub mod compare;
+pub mod expected;
+pub mod faults;
+pub mod fish;
+pub mod json;
+pub mod matrix;
+pub mod matrix_bad;
+pub mod matrix_large;
+pub mod options;
+pub mod output;
+pub mod picture;
+pub mod plot;
+pub mod progress;
+pub mod python;
+pub mod results;
+pub mod round_trips;
+pub mod unreadable;
+pub mod usage;
+
+use crate::group::Group;
+use crate::process::{self, lossy, AT_ONCE};
+use expected::{differing, Expected};
+use std::fmt::Arguments;
+use std::fs;
+use std::path::{Path, PathBuf};
+use std::process::{Command, Output};
+
+/// The folder of the programs that are built.
+pub const PROGRAMS: &str = concat!(env!("CARGO_MANIFEST_DIR"), "/../target/bin");
+
+/// The tool, which `make tool` builds.
+pub const TOOL: &str = concat!(env!("CARGO_MANIFEST_DIR"), "/../target/bin/sigxume");
+
+/// The tool in a folder that is removed in the end.
+pub struct Tool {
+    folder: PathBuf,
+}
+
+impl Tool {
+    /// In an empty folder for a group.
+    pub fn new(g: &Group) -> Self {
+        let name: String = g.name().replace(|c: char| !c.is_ascii_alphanumeric(), "-");
+        let name = format!("sigxume-{}-{name}", std::process::id());
+        let folder = std::env::temp_dir().join(name);
+        fs::create_dir_all(&folder).expect("a folder can be made among the temporary ones");
+        Self { folder }
+    }
+
+    pub fn folder(&self) -> &Path {
+        &self.folder
+    }
+
+    /// Writes a file, and the folders on the way to it.
+    pub fn put(&self, name: &str, bytes: impl AsRef<[u8]>) {
+        let path = self.folder.join(name);
+        let folder = path.parent().expect("the file is in the folder");
+        fs::create_dir_all(folder).expect("a folder can be made");
+        fs::write(path, bytes).expect("a file can be written");
+    }
+
+    /// A file's bytes, if it is there.
+    pub fn get(&self, name: &str) -> Option<Vec<u8>> {
+        fs::read(self.folder.join(name)).ok()
+    }
+
+    /// Removes a file or a folder, if it is there.
+    pub fn remove(&self, name: &str) {
+        let path = self.folder.join(name);
+        let _ = fs::remove_file(&path);
+        let _ = fs::remove_dir_all(&path);
+    }
+
+    /// The names of what is in the folder, hidden files too.
+    pub fn names(&self) -> Vec<String> {
+        let entries = fs::read_dir(&self.folder).expect("the folder can be read");
+        let mut names: Vec<String> = entries
+            .map(|entry| lossy(entry.expect("an entry").file_name().as_encoded_bytes()))
+            .collect();
+        names.sort();
+        names
+    }
+
+    /// The tool with arguments, in its folder.
+    pub fn command(&self, args: &[&str]) -> Command {
+        let mut command = Command::new(TOOL);
+        command.current_dir(&self.folder).args(args);
+        command
+    }
+
+    /// Runs the tool with arguments and an input.
+    pub fn run(&self, args: &[&str], input: &[u8]) -> Result<Output, String> {
+        process::run(&mut self.command(args), input, AT_ONCE)
+            .map_err(|error| format!("{TOOL}: {error}; run `make tool` first"))
+    }
+
+    /// Runs the tool, which must end with what is expected.
+    pub fn expect(
+        &self,
+        g: &mut Group,
+        case: Arguments,
+        args: &[&str],
+        input: &[u8],
+        expected: &Expected,
+    ) {
+        let difference = match self.run(args, input) {
+            Ok(ran) => expected.difference(&ran),
+            Err(error) => Some(error),
+        };
+        g.equal(format_args!("{case}: {args:?}"), difference, None);
+    }
+
+    /// The tool must write this to the file named by `-o`, print nothing, and leave no other file.
+    pub fn expect_written(
+        &self,
+        g: &mut Group,
+        case: Arguments,
+        args: &[&str],
+        input: &[u8],
+        written: &[u8],
+    ) {
+        for before in [None, Some("what was there before\n")] {
+            self.remove("out");
+            if let Some(text) = before {
+                self.put("out", text);
+            }
+            let mut names = self.names();
+            names.retain(|name| name != "out");
+            names.push("out".into());
+            names.sort();
+            let args = [args, &["-o", "out"]].concat();
+            self.expect(g, case, &args, input, &Expected::prints(""));
+            let difference = match self.get("out") {
+                Some(found) => differing(&found, written),
+                None => Some("no file was written".into()),
+            };
+            g.equal(format_args!("{case}: {args:?}, its file"), difference, None);
+            g.equal(format_args!("{case}: {args:?}, names"), self.names(), names);
+        }
+        self.remove("out");
+    }
+
+    /// The tool must fail as expected, and leave the folder as it was, with and without a file named by
+    /// `-o`.
+    pub fn expect_failure(
+        &self,
+        g: &mut Group,
+        case: Arguments,
+        args: &[&str],
+        input: &[u8],
+        expected: &Expected,
+    ) {
+        self.expect(g, case, args, input, expected);
+        let args = [args, &["-o", "out"]].concat();
+        for before in [None, Some(b"what was there before\n".to_vec())] {
+            self.remove("out");
+            if let Some(bytes) = &before {
+                self.put("out", bytes);
+            }
+            let names = self.names();
+            self.expect(g, case, &args, input, expected);
+            let left = (self.get("out"), self.names());
+            g.equal(
+                format_args!("{case}: {args:?}, files"),
+                left,
+                (before, names),
+            );
+        }
+        self.remove("out");
+    }
+}
+
+impl Drop for Tool {
+    fn drop(&mut self) {
+        let _ = fs::remove_dir_all(&self.folder);
+    }
+}

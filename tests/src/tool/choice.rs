@@ -1,0 +1,101 @@
+//! Which two fish are compared: `--fish`.
+
+use super::expected::{Expected, Line};
+use super::fish::{fish, records, text, Fish};
+use super::results::Compared;
+use super::Tool;
+use crate::group::Group;
+use crate::known;
+
+/// Which two of several fish are compared.
+pub fn chosen(g: &mut Group, tool: &Tool) {
+    let words = |letters: &str| known::letters(letters);
+    let all = [
+        (12, "caabaad"),
+        (13, "baadcaaaabaa"),
+        (12, "abcde"),
+        (7, ""),
+        (65_535, "cdeab"),
+    ];
+    let all = all.map(|(id, name)| Fish::new(id, &words(name)));
+    tool.put("all.txt", text(&all));
+    tool.put("all", records(&all));
+    tool.put("front", records(&all[..2]));
+    tool.put("back.txt", text(&all[2..]));
+    let sources = [&["all.txt"][..], &["all"], &["front", "back.txt"]];
+    let is = |line: &str| Expected::fails(Line::Is(format!("sigxume: {line}")));
+    let listing =
+        |a: usize, b: usize| Expected::prints(Compared::new(&all[a], &all[b], 1).listing());
+    let mut rows = vec![
+        ("13,65535", listing(1, 4)),
+        ("65535,13", listing(4, 1)),
+        ("7,13", listing(3, 1)),
+        ("13,7", listing(1, 3)),
+        ("12,12", listing(0, 2)),
+        ("99,13", is("there is no fish 99")),
+        ("13,0", is("there is no fish 0")),
+        ("99,99", is("there is no fish 99")),
+        ("12,13", is("fish 12 is there 2 times")),
+        ("13,12", is("fish 12 is there 2 times")),
+    ];
+    let once = Line::Begins("sigxume: fish 13 is there ".into());
+    rows.push(("13,13", Expected::fails(once)));
+    for source in sources {
+        for (names, expected) in &rows {
+            for option in [&["--fish", names][..], &[&format!("--fish={names}")]] {
+                let args = [&["compare", "-m", "1"], option, source].concat();
+                let case = format_args!("fish {names}");
+                if expected.status == 0 {
+                    tool.expect(g, case, &args, b"", expected);
+                } else {
+                    tool.expect_failure(g, case, &args, b"", expected);
+                }
+            }
+        }
+        let args = [&["compare", "-m1"], source].concat();
+        let expected = is("there are 5 fish: name two of them by --fish A,B");
+        tool.expect_failure(g, format_args!("five fish"), &args, b"", &expected);
+    }
+    let case = format_args!("three times the same");
+    let three = text(&[all[0].clone(), all[0].clone(), all[0].clone()]);
+    let expected = is("fish 12 is there 3 times");
+    let args = ["compare", "--fish", "12,12", "-m", "1", "-"];
+    tool.expect(g, case, &args, &three, &expected);
+    let expected = is("there are 3 fish: name two of them by --fish A,B");
+    tool.expect(g, case, &["compare", "-m", "1", "-"], &three, &expected);
+    for count in [0, 1] {
+        let expected = Expected::fails(Line::Begins("sigxume: ".into()));
+        for form in [text, records] {
+            let case = format_args!("{count} fish");
+            let args = ["compare", "-m", "1", "-"];
+            tool.expect_failure(g, case, &args, &form(&all[..count]), &expected);
+        }
+    }
+    // A file twice has its fish twice.
+    tool.put("one", records(&all[1..2]));
+    let args = ["compare", "-m", "1", "one", "one"];
+    tool.expect(g, format_args!("the same file"), &args, b"", &listing(1, 1));
+}
+
+/// Two of very many fish.
+pub fn very_many(g: &mut Group, tool: &Tool) {
+    let random = &mut g.random;
+    let all: Vec<Fish> = (0..20_000)
+        .map(|id| Fish {
+            id,
+            ..fish(random, 20)
+        })
+        .collect();
+    tool.put("many", records(&all));
+    tool.put("many.txt", text(&all));
+    let listing = Compared::new(&all[19_999], &all[3], 1).listing();
+    let expected = Expected::prints(listing);
+    for file in ["many", "many.txt"] {
+        let args = ["compare", "-m", "1", "--fish", "19999,3", file];
+        tool.expect(g, format_args!("20,000 fish"), &args, b"", &expected);
+        let args = ["compare", "-m", "1", file];
+        let line = "sigxume: there are 20000 fish: name two of them by --fish A,B";
+        let expected = Expected::fails(Line::Is(line.into()));
+        tool.expect(g, format_args!("20,000 fish"), &args, b"", &expected);
+    }
+}

@@ -1,0 +1,96 @@
+//! `compare --json`: the text byte for byte, and what a stock parser reads in it.
+
+use super::compare::{any_fish_pair, larger};
+use super::expected::{differing, Expected, Line};
+use super::faults::refusal;
+use super::fish::{records, text, Fish};
+use super::python;
+use super::results::Compared;
+use super::Tool;
+use crate::group::Group;
+use crate::known;
+use crate::reference::MINIMUM;
+
+/// Reads a JSON text from each line and prints its values in a form of its own; a key that is missing, out
+/// of order or there twice shows.
+const SCRIPT: &str = r#"
+import json
+def keys(pairs):
+    return ' '.join(key for key, _ in pairs), dict(pairs)
+for line in open('texts'):
+    names, d = json.loads(line, object_pairs_hook=keys)
+    assert all(type(n) is int for n in d['fish'] + d['lengths'] + [d['minimum'], d['covered'], d['score']])
+    print(names, *d['fish'], d['minimum'], *d['lengths'], d['covered'], d['score'], sep='|')
+    for names, tile in d['tiles']:
+        assert all(type(n) is int for n in tile.values())
+        print(names, tile['first'], tile['second'], tile['length'], tile['shift'], sep='|')
+"#;
+
+/// What the script must print for a pair.
+fn values(compared: &Compared) -> String {
+    let ([a, b], [n, m]) = (compared.ids(), compared.lengths());
+    let mut lines = format!(
+        "fish minimum lengths tiles covered score|{a}|{b}|{}|{n}|{m}|{}|{}\n",
+        compared.minimum,
+        compared.covered(),
+        compared.score()
+    );
+    for tile in &compared.tiles {
+        let shift = tile.second as i64 - tile.first as i64;
+        lines += &format!(
+            "first second length shift|{}|{}|{}|{shift}\n",
+            tile.first, tile.second, tile.length
+        );
+    }
+    lines
+}
+
+/// Known, random and large pairs.
+pub fn json(g: &mut Group) {
+    let tool = Tool::new(g);
+    let mut pairs: Vec<([Fish; 2], u32)> = known::rows()
+        .map(|row| {
+            let pair = [Fish::new(12, &row.first), Fish::new(13, &row.second)];
+            (pair, row.minimum as u32)
+        })
+        .collect();
+    pairs.extend((0..150).map(|_| any_fish_pair(g)));
+    pairs.extend(larger(g));
+    let (mut printed, mut expected) = (Vec::new(), String::new());
+    for (number, (pair, minimum)) in pairs.iter().enumerate() {
+        let compared = Compared::new(&pair[0], &pair[1], *minimum);
+        let minimum = minimum.to_string();
+        let args = ["compare", "--json", "-m", &minimum, "-"];
+        let input = if number % 2 == 0 {
+            text(pair)
+        } else {
+            records(pair)
+        };
+        let case = format_args!("pair {number}");
+        tool.expect(g, case, &args, &input, &Expected::prints(compared.json()));
+        // The parser gets the bytes of the tool, not the expected ones.
+        if let Ok(ran) = tool.run(&args, &input) {
+            printed.extend(ran.stdout);
+        }
+        expected += &values(&compared);
+        if number < 20 {
+            let made = compared.json();
+            tool.expect_written(g, case, &args, &input, made.as_bytes());
+        }
+    }
+    tool.put("texts", &printed);
+    let read = python::run(SCRIPT, tool.folder());
+    let difference = read.map(|read| differing(read.as_bytes(), expected.as_bytes()));
+    g.equal(format_args!("read by Python"), difference, Ok(None));
+    let example =
+        "{\"fish\":[12,13],\"minimum\":2,\"lengths\":[7,12],\"tiles\":[{\"first\":1,\"second\":7,\
+                   \"length\":5,\"shift\":6}],\"covered\":5,\"score\":526}\n";
+    let lines = b"12 3 1 1 2 1 1 4\n13 2 1 1 4 3 1 1 1 1 2 1 1\n";
+    let args = ["compare", "-", "-m", "2", "--json"];
+    let case = format_args!("worked example");
+    tool.expect(g, case, &args, lines, &Expected::prints(example));
+    let line = Line::Is(format!("sigxume: {}", refusal(MINIMUM)));
+    let args = ["compare", "--json", "-m", "0", "-"];
+    let case = format_args!("minimum 0");
+    tool.expect_failure(g, case, &args, lines, &Expected::fails(line));
+}

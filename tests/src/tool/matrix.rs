@@ -1,0 +1,182 @@
+//! `matrix` on good input: the table, the list of pairs and its parts.
+
+use super::expected::{differing, Expected, Line};
+use super::faults::refusal;
+use super::fish::{records, text, Fish};
+use super::results::Matrix;
+use super::Tool;
+use crate::group::Group;
+use crate::known::letters;
+use crate::pairs::any_pair;
+use crate::random::Random;
+use crate::reference::MINIMUM;
+use crate::samples::ids;
+
+/// So many fish that have stretches in common; some have the same number, some no words.
+pub fn related_fish(random: &mut Random, count: usize) -> Vec<Fish> {
+    let table = ids(random);
+    let mut all = Vec::new();
+    while all.len() < count {
+        let longest = random.pick(&[10, 60, 120]);
+        for words in any_pair(random, longest, 3) {
+            let words = if random.one_in(8) { Vec::new() } else { words };
+            all.push(Fish::new(random.pick(&table), &words));
+        }
+    }
+    all.truncate(count);
+    all
+}
+
+/// The same fish from a folder, a file of records, a file of text, several paths and standard input.
+fn sources(tool: &Tool, all: &[Fish]) -> Vec<(Vec<&'static str>, Vec<u8>)> {
+    let half = all.len() / 2;
+    tool.remove("folder");
+    tool.put("folder/.hidden", "x");
+    for (number, fish) in all.iter().enumerate() {
+        // By their bytes, capitals come before small letters and these before other letters.
+        let name = ["0", "B", "a", "\u{e9}"][4 * number / all.len()];
+        let name = format!("folder/{name}{number:03}");
+        match number % 2 {
+            0 => tool.put(&name, fish.record()),
+            _ => tool.put(&name, fish.line()),
+        }
+    }
+    tool.put("all", records(all));
+    tool.put("all.txt", text(all));
+    tool.put("front", records(&all[..half]));
+    tool.put("back.txt", text(&all[half..]));
+    tool.put("empty", "");
+    vec![
+        (vec!["folder"], Vec::new()),
+        (vec!["folder/", "empty"], Vec::new()),
+        (vec!["all"], Vec::new()),
+        (vec!["all.txt"], Vec::new()),
+        (vec!["front", "empty", "back.txt"], Vec::new()),
+        (vec!["front", "-"], text(&all[half..])),
+        (vec!["-", "back.txt"], records(&all[..half])),
+    ]
+}
+
+/// Tables and lists, from every kind of source, by several threads.
+fn forms(g: &mut Group, tool: &Tool, all: &[Fish], minimum: u32) {
+    let matrix = Matrix::new(all, minimum);
+    let (table, list) = (matrix.table(), matrix.whole_list());
+    let case = format_args!("{} fish, minimum {minimum}", all.len());
+    let minimum = minimum.to_string();
+    let forms = [(&[][..], &table), (&["--pairs"], &list)];
+    for (paths, input) in sources(tool, all) {
+        for (option, expected) in forms {
+            let args = [&["matrix", "-m", &minimum], option, &paths].concat();
+            tool.expect(g, case, &args, &input, &Expected::prints(&expected[..]));
+        }
+    }
+    for threads in ["1", "2", "5"] {
+        for (option, expected) in forms {
+            let args = [
+                &["matrix", "--threads", threads, "-m", &minimum, "all"],
+                option,
+            ]
+            .concat();
+            tool.expect(g, case, &args, b"", &Expected::prints(&expected[..]));
+            tool.expect_written(g, case, &args, b"", expected.as_bytes());
+        }
+    }
+    // With --keep-going nothing changes where nothing is bad.
+    for option in ["-k", "--keep-going"] {
+        let args = ["matrix", "-m", &minimum, "folder", option];
+        tool.expect(g, case, &args, b"", &Expected::prints(&table[..]));
+    }
+}
+
+/// The parts of the list, each as it must be, and one after another the whole.
+fn parts(g: &mut Group, tool: &Tool, all: &[Fish], minimum: u32) {
+    let matrix = Matrix::new(all, minimum);
+    tool.put("all", records(all));
+    let pairs = all.len() * all.len().saturating_sub(1) / 2;
+    let minimum = minimum.to_string();
+    for of in [1, 2, 3, 7, pairs.max(1), pairs + 1, pairs + 5] {
+        let mut joined = Vec::new();
+        for part in 1..=of {
+            let option = format!("{part}/{of}");
+            let args = [
+                "matrix", "--pairs", "-m", &minimum, "--part", &option, "all",
+            ];
+            let case = format_args!("{} fish", all.len());
+            let expected = matrix.part(part, of);
+            tool.expect(g, case, &args, b"", &Expected::prints(expected));
+            joined.extend(
+                tool.run(&args, b"")
+                    .map(|ran| ran.stdout)
+                    .unwrap_or_default(),
+            );
+        }
+        let case = format_args!("{} fish, {of} parts joined", all.len());
+        let difference = differing(&joined, matrix.whole_list().as_bytes());
+        g.equal(case, difference, None);
+    }
+    // Numbers of parts whose products with the pairs have more than 64 bits.
+    let (heading, mut lines) = matrix.list();
+    let most = u64::MAX;
+    for (part, expected) in [(1, heading), (most, lines.pop().unwrap_or_default())] {
+        let option = format!("--part={part}/{most}");
+        let args = ["matrix", "--pairs", "-m", &minimum, &option, "all"];
+        let case = format_args!("{} fish, very many parts", all.len());
+        tool.expect(g, case, &args, b"", &Expected::prints(expected));
+    }
+}
+
+/// The example of the description: what the tool must print, letter for letter.
+fn example(g: &mut Group, tool: &Tool) {
+    let words = ["caabaad", "baadcaaaabaa", "ab", ""];
+    let all: Vec<Fish> = (12..)
+        .zip(words)
+        .map(|(id, name)| Fish::new(id, &letters(name)))
+        .collect();
+    let lines = text(&all);
+    let case = format_args!("example");
+    let table = "fish,12,13,14,15\n12,,736,444,0\n13,,,285,0\n14,,,,0\n15,,,,\n";
+    let args = ["matrix", "-m", "1", "-"];
+    tool.expect(g, case, &args, &lines, &Expected::prints(table));
+    let list =
+        "row,column,first,second,tiles,covered,score\n1,2,12,13,3,7,736\n1,3,12,14,1,2,444\n\
+                1,4,12,15,0,0,0\n2,3,13,14,1,2,285\n2,4,13,15,0,0,0\n3,4,14,15,0,0,0\n";
+    let args = ["matrix", "-m", "1", "-", "--pairs"];
+    tool.expect(g, case, &args, &lines, &Expected::prints(list));
+    for input in [&b""[..], b"12\n"] {
+        let args = ["matrix", "-m", "1", "-"];
+        let table = match input {
+            b"" => "fish\n",
+            _ => "fish,12\n12,\n",
+        };
+        tool.expect(g, case, &args, input, &Expected::prints(table));
+        let args = ["matrix", "-m", "1", "--pairs", "-"];
+        let list = "row,column,first,second,tiles,covered,score\n";
+        tool.expect(g, case, &args, input, &Expected::prints(list));
+    }
+}
+
+/// Matrices of 0 to 12 fish.
+pub fn matrix(g: &mut Group) {
+    let tool = Tool::new(g);
+    example(g, &tool);
+    for count in [0, 1, 2, 3, 7, 12] {
+        for minimum in [1, 3] {
+            let all = related_fish(&mut g.random, count);
+            forms(g, &tool, &all, minimum);
+        }
+        let all = related_fish(&mut g.random, count);
+        parts(g, &tool, &all, 2);
+        // The minimum is refused whatever there is to compare.
+        for minimum in ["0", "257", "4294967295"] {
+            let line = Line::Is(format!("sigxume: {}", refusal(MINIMUM)));
+            let args = ["matrix", "-m", minimum, "all"];
+            let case = format_args!("{count} fish");
+            tool.expect_failure(g, case, &args, b"", &Expected::fails(line));
+        }
+    }
+    // An empty folder has no fish.
+    std::fs::create_dir_all(tool.folder().join("none")).expect("a folder can be made");
+    let args = ["matrix", "-m", "1", "none"];
+    let case = format_args!("empty folder");
+    tool.expect(g, case, &args, b"", &Expected::prints("fish\n"));
+}

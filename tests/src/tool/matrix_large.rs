@@ -1,0 +1,104 @@
+//! `matrix` on 64 records of 2,048 words: all 2,016 pairs.
+
+use super::expected::Expected;
+use super::fish::{records, text, Fish};
+use super::results::{Compared, Matrix};
+use super::Tool;
+use crate::group::Group;
+use crate::pairs::{calls, related};
+use crate::reference::{tiling, MAX_WORDS};
+use crate::samples::NO_CALL;
+
+const MINIMUM: u32 = 12;
+
+/// Families of fish: within one, each is made from the founder with words replaced and blocks moved.
+fn families(g: &mut Group) -> Vec<Fish> {
+    let random = &mut g.random;
+    let mut all = Vec::new();
+    for family in 0..8 {
+        let codes = random.pick(&[20, 40, 200]);
+        let [founder, _] = related(random, MAX_WORDS, codes);
+        for child in 0..8 {
+            let mut words = founder.clone();
+            for word in &mut words {
+                if random.one_in(25) {
+                    let other = calls(random, 1, codes)[0];
+                    *word = random.pick(&[NO_CALL, other]);
+                }
+            }
+            for _ in 0..child {
+                let (from, to) = (random.below(MAX_WORDS - 100), random.below(MAX_WORDS - 100));
+                let block: Vec<u32> = words.drain(from..from + 100).collect();
+                words.splice(to..to, block);
+            }
+            all.push(Fish::new((1_000 * family + child) as u16, &words));
+        }
+    }
+    all
+}
+
+/// Tables, lists and parts, by any number of threads, from a folder and from one file.
+pub fn large(g: &mut Group) {
+    let tool = Tool::new(g);
+    let all = families(g);
+    let matrix = Matrix::new(&all, MINIMUM);
+    for (a, b) in [(0, 7), (3, 5), (8, 40), (63, 1)] {
+        let literal = tiling(&all[a].words, &all[b].words, MINIMUM as usize);
+        let tiles = Compared::new(&all[a], &all[b], MINIMUM).tiles;
+        g.equal(format_args!("fish {a} and {b}"), tiles, literal);
+    }
+    // The families show: the pairs within one have the higher scores.
+    let alike = matrix.cells.iter().filter(|cell| cell.score > 300).count();
+    g.equal(format_args!("pairs within families"), alike, 8 * 28);
+    for (number, fish) in all.iter().enumerate() {
+        tool.put(&format!("folder/{number:02}"), fish.record());
+    }
+    tool.put("all", records(&all));
+    tool.put("all.txt", text(&all));
+    let minimum = MINIMUM.to_string();
+    let (table, list) = (matrix.table(), matrix.whole_list());
+    for (option, made) in [(&[][..], &table), (&["--pairs"], &list)] {
+        for rest in [
+            &["folder"][..],
+            &["all.txt"],
+            &["--threads", "1", "all"],
+            &["--threads=2", "all"],
+            &["--threads", "7", "folder"],
+        ] {
+            let args = [&["matrix", "-m", &minimum], option, rest].concat();
+            let case = format_args!("64 fish");
+            tool.expect(g, case, &args, b"", &Expected::prints(&made[..]));
+        }
+    }
+    for part in 1..=5 {
+        let option = format!("{part}/5");
+        let args = [
+            "matrix", "-m", &minimum, "--pairs", "--part", &option, "all",
+        ];
+        let case = format_args!("64 fish");
+        tool.expect(g, case, &args, b"", &Expected::prints(matrix.part(part, 5)));
+    }
+    let args = ["matrix", "-m", &minimum, "all"];
+    tool.expect_written(g, format_args!("64 fish"), &args, b"", table.as_bytes());
+    many(g, &tool);
+}
+
+/// Very many fish of few words: rows must come in order whichever thread is first.
+fn many(g: &mut Group, tool: &Tool) {
+    let random = &mut g.random;
+    let all: Vec<Fish> = (0..300)
+        .map(|id| {
+            let length = random.pick(&[0, 1, 5, 12]);
+            Fish::new(id, &calls(random, length, 3))
+        })
+        .collect();
+    let matrix = Matrix::new(&all, 1);
+    tool.put("many.txt", text(&all));
+    for threads in ["1", "2", "9"] {
+        let args = ["matrix", "-m1", "--threads", threads, "many.txt"];
+        let case = format_args!("300 fish");
+        tool.expect(g, case, &args, b"", &Expected::prints(matrix.table()));
+        let args = [&args[..], &["--pairs"]].concat();
+        tool.expect(g, case, &args, b"", &Expected::prints(matrix.whole_list()));
+    }
+}

@@ -1,0 +1,68 @@
+//! Options in every form in which they may be written.
+
+use super::expected::Expected;
+use super::fish::{records, text, Fish};
+use super::matrix::related_fish;
+use super::results::{Compared, Matrix};
+use super::Tool;
+use crate::group::Group;
+use std::ffi::OsStr;
+use std::os::unix::ffi::OsStrExt;
+
+/// Arguments that mean the same.
+fn same(g: &mut Group, tool: &Tool, expected: &str, rows: &[&[&str]]) {
+    for args in rows {
+        let expected = Expected::prints(expected);
+        tool.expect(g, format_args!("option"), args, b"", &expected);
+    }
+}
+
+/// Short and long options, with their values after a blank, after `=` or at once; before and after operands.
+pub fn options(g: &mut Group) {
+    let tool = Tool::new(g);
+    let mut all = related_fish(&mut g.random, 4);
+    for (id, fish) in (7..).zip(&mut all) {
+        fish.id = id;
+    }
+    for name in ["a", "-a", "--json", "-"] {
+        tool.put(name, records(&all));
+    }
+    let compared = Compared::new(&all[1], &all[0], 2);
+    #[rustfmt::skip]
+    same(g, &tool, &compared.listing(), &[
+        &["compare", "-m", "2", "--fish", "8,7", "a"], &["compare", "-m2", "--fish=8,7", "a"],
+        &["compare", "a", "--minimum", "2", "--fish", "8,7"], &["compare", "--minimum=2", "a", "--fish=8,7"],
+        &["compare", "--fish", "8,7", "a", "-m", "2"], &["compare", "-m", "2", "--fish", "8,7", "--", "a"],
+        &["compare", "-m", "2", "--fish", "8,7", "--", "-a"], &["compare", "-m", "2", "--fish", "8,7", "--", "--json"],
+        &["compare", "-m", "2", "--fish", "8,7", "./-"],
+    ]);
+    #[rustfmt::skip]
+    same(g, &tool, &compared.json(), &[
+        &["compare", "-m", "2", "--fish", "8,7", "a", "--json"], &["compare", "--json", "-m2", "--fish=8,7", "--", "--json"],
+        &["compare", "a", "--json", "--fish=8,7", "--minimum", "2"],
+    ]);
+    let matrix = Matrix::new(&all, 3);
+    #[rustfmt::skip]
+    same(g, &tool, &matrix.table(), &[
+        &["matrix", "-m", "3", "a"], &["matrix", "-m3", "a"], &["matrix", "a", "--minimum", "3"],
+        &["matrix", "--minimum=3", "a"], &["matrix", "-m3", "--threads", "2", "a"], &["matrix", "a", "-m3", "--threads=64"],
+        &["matrix", "-k", "-m3", "a"], &["matrix", "--keep-going", "a", "-m3"], &["matrix", "-m3", "--", "-a"],
+    ]);
+    #[rustfmt::skip]
+    same(g, &tool, &matrix.whole_list(), &[
+        &["matrix", "--pairs", "-m", "3", "a"], &["matrix", "-m3", "a", "--pairs", "--part", "1/1"],
+        &["matrix", "--part=1/1", "--pairs", "-m3", "a"],
+    ]);
+    names(g, &tool, &all);
+}
+
+/// Names of files that are not UTF-8.
+fn names(g: &mut Group, tool: &Tool, all: &[Fish]) {
+    let name = OsStr::from_bytes(b"fish\xFF.txt");
+    std::fs::write(tool.folder().join(name), text(all)).expect("a file can be written");
+    let ran = tool.command(&["encode"]).arg(name).output();
+    let seen = ran.map(|ran| (ran.status.code(), ran.stdout));
+    let seen = seen.map_err(|error| error.to_string());
+    let case = format_args!("a name that is not UTF-8");
+    g.equal(case, seen, Ok((Some(0), records(all))));
+}

@@ -1,0 +1,66 @@
+//! Output that cannot be written.
+
+use super::expected::{Expected, Line};
+use super::fish::{fish, records, text};
+use super::Tool;
+use crate::group::Group;
+use crate::process::lossy;
+use crate::reference::MAX_WORDS;
+use std::fs::File;
+use std::process::Stdio;
+
+/// Each subcommand with an output.
+const COMMANDS: [&[&str]; 6] = [
+    &["encode", "fish.txt"],
+    &["decode", "fish"],
+    &["compare", "-m", "1", "fish"],
+    &["compare", "-m", "1", "--json", "fish"],
+    &["plot", "-m", "1", "fish"],
+    &["matrix", "-m", "1", "fish"],
+];
+
+/// A closed pipe, a full disk, a folder that is not there, a folder in place of the file.
+pub fn output(g: &mut Group) {
+    let tool = Tool::new(g);
+    let all = [(); 2].map(|()| fish(&mut g.random, MAX_WORDS));
+    tool.put("fish", records(&all));
+    tool.put("fish.txt", text(&all));
+    tool.put("folder/file", "");
+    for args in COMMANDS
+        .into_iter()
+        .chain([&["--help"][..], &["matrix", "--help"]])
+    {
+        let (reader, writer) = std::io::pipe().expect("a pipe can be made");
+        drop(reader);
+        let mut command = tool.command(args);
+        let ran = command.stdin(Stdio::null()).stdout(writer).output();
+        let seen = ran.map(|ran| (ran.status.code(), lossy(&ran.stderr)));
+        let seen = seen.map_err(|error| error.to_string());
+        let case = format_args!("closed pipe: {args:?}");
+        g.equal(case, seen, Ok((Some(1), String::new())));
+        let full = File::options()
+            .write(true)
+            .open("/dev/full")
+            .expect("/dev/full is there");
+        let mut command = tool.command(args);
+        let ran = command.stdin(Stdio::null()).stdout(full).output();
+        let seen = ran.map(|ran| {
+            let line = lossy(&ran.stderr);
+            let right = line.starts_with("sigxume: ") && line.lines().count() == 1;
+            (ran.status.code(), right)
+        });
+        let seen = seen.map_err(|error| error.to_string());
+        g.equal(format_args!("full: {args:?}"), seen, Ok((Some(1), true)));
+    }
+    for args in COMMANDS {
+        for name in ["missing/out", "folder", "folder/file/out", "/dev/full/out"] {
+            let names = tool.names();
+            let expected = Expected::fails(Line::Begins("sigxume: ".into()));
+            let args = [args, &["-o", name]].concat();
+            tool.expect(g, format_args!("no such output"), &args, b"", &expected);
+            let left = (tool.names(), tool.get("folder/file"));
+            let expected = (names, Some(Vec::new()));
+            g.equal(format_args!("{args:?}: files"), left, expected);
+        }
+    }
+}

@@ -1,0 +1,130 @@
+//! `plot`: pairs whose pictures are read by a stock XML parser.
+
+use super::compare::{any_fish_pair, larger};
+use super::expected::{Expected, Line};
+use super::faults::refusal;
+use super::fish::{records, text, Fish};
+use super::results::Compared;
+use super::Tool;
+use super::{picture, python};
+use crate::group::Group;
+use crate::known;
+use crate::pairs::distinct;
+use crate::reference::MINIMUM;
+
+/// Pairs whose tiles are told apart in every way: all kept, one kept, chains of equal weight.
+fn made() -> Vec<([Fish; 2], u32)> {
+    let blocks = |order: &[usize], size: usize| -> Vec<u32> {
+        let blocks = order.iter().map(|&at| distinct(at * size, size));
+        blocks.collect::<Vec<_>>().concat()
+    };
+    let orders: [&[usize]; 6] = [
+        &[0, 1, 2, 3, 4, 5],
+        &[5, 4, 3, 2, 1, 0],
+        &[3, 4, 5, 0, 1, 2],
+        &[1, 0, 3, 2, 5, 4],
+        &[2, 0, 1, 5, 3, 4],
+        &[0, 9, 1, 8, 2, 7],
+    ];
+    let pair = |order: &&[usize], size: usize| {
+        let first = blocks(orders[0], size);
+        (
+            [Fish::new(1, &first), Fish::new(2, &blocks(order, size))],
+            1,
+        )
+    };
+    let sizes = [1, 2, 30].into_iter();
+    sizes
+        .flat_map(|size| orders.iter().map(move |order| pair(order, size)))
+        .collect()
+}
+
+/// Known, made, random, empty and large pairs.
+pub fn plot(g: &mut Group) {
+    let tool = Tool::new(g);
+    let mut pairs: Vec<([Fish; 2], u32)> = known::rows()
+        .map(|row| {
+            let pair = [Fish::new(12, &row.first), Fish::new(13, &row.second)];
+            (pair, row.minimum as u32)
+        })
+        .collect();
+    pairs.extend(made());
+    pairs.extend((0..60).map(|_| any_fish_pair(g)));
+    pairs.extend(larger(g));
+    for (number, (pair, minimum)) in pairs.iter().enumerate() {
+        let minimum = minimum.to_string();
+        let args = ["plot", "-m", &minimum, "-"];
+        let ran = tool.run(&args, &records(pair));
+        let picture = ran.map(|ran| ran.stdout).unwrap_or_default();
+        tool.put(&format!("{number}.svg"), &picture);
+        let same = Expected::prints(picture.clone());
+        let case = format_args!("pair {number}, again");
+        g.equal(
+            format_args!("pair {number}, a picture"),
+            picture.is_empty(),
+            false,
+        );
+        tool.expect(g, case, &args, &text(pair), &same);
+        if number < 15 {
+            tool.expect_written(g, case, &args, &text(pair), &picture);
+        }
+    }
+    tool.put("count", pairs.len().to_string());
+    let read = python::run(picture::SCRIPT, tool.folder());
+    let error = read.as_ref().err().cloned();
+    g.equal(format_args!("read by Python"), error, None);
+    let read = read.unwrap_or_default();
+    let parts: Vec<&str> = read.split("picture ").skip(1).collect();
+    g.equal(format_args!("pictures"), parts.len(), pairs.len());
+    for (number, (part, (pair, minimum))) in parts.iter().zip(&pairs).enumerate() {
+        let compared = Compared::new(&pair[0], &pair[1], *minimum);
+        picture::check(g, format_args!("pair {number}"), part, &compared);
+    }
+    bad(g, &tool);
+}
+
+/// Input that is refused: as by `compare`.
+fn bad(g: &mut Group, tool: &Tool) {
+    let is = |line: String| Expected::fails(Line::Is(format!("sigxume: {line}")));
+    let three = b"12 1\n13 1\n14 1\n";
+    let case = format_args!("bad input");
+    for (args, input, expected) in [
+        (
+            &["plot", "-m", "1", "-"][..],
+            &three[..],
+            is("there are 3 fish: name two of them by --fish A,B".into()),
+        ),
+        (
+            &["plot", "-m", "1", "-", "--fish=12,99"],
+            three,
+            is("there is no fish 99".into()),
+        ),
+        (
+            &["plot", "-m", "257", "-", "--fish=14,12"],
+            three,
+            is(refusal(MINIMUM)),
+        ),
+        (
+            &["plot", "-m", "1", "-"],
+            b"12 1\n13 01\n",
+            Expected::fails(Line::Begins(
+                "sigxume: standard input, line 2, column 4: ".into(),
+            )),
+        ),
+        (
+            &["plot", "-m", "1", "-"],
+            &[0; 12],
+            is(format!(
+                "standard input, record 1 (word 0): {}",
+                refusal(10)
+            )),
+        ),
+        (
+            &["plot", "-m", "1", "-"],
+            b"",
+            Expected::fails(Line::Begins("sigxume: ".into())),
+        ),
+    ] {
+        tool.expect_failure(g, case, args, input, &expected);
+    }
+}

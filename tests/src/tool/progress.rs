@@ -1,0 +1,163 @@
+//! The progress bar of `matrix`: at a terminal it is there and wiped in the end, elsewhere it is not.
+
+use super::expected::differing;
+use super::fish::{fish, records, text};
+use super::matrix::related_fish;
+use super::results::Matrix;
+use super::{Tool, TOOL};
+use crate::group::Group;
+use crate::process::lossy;
+use std::process::{Command, Stdio};
+
+/// What a command writes to a pseudo-terminal, and its status.
+fn at_terminal(tool: &Tool, line: &str) -> Result<(Option<i32>, Vec<u8>), String> {
+    let mut command = Command::new("script");
+    command.current_dir(tool.folder()).env("SHELL", "/bin/sh");
+    command.args(["-qec", line, "/dev/null"]);
+    let pipe = Stdio::piped;
+    let command = command.stdin(pipe()).stdout(pipe()).stderr(pipe());
+    let mut child = command
+        .spawn()
+        .map_err(|error| format!("script (of util-linux), which these cases need: {error}"))?;
+    // Its end would be shown as a character of the terminal.
+    let stdin = child.stdin.take();
+    let output = child
+        .wait_with_output()
+        .map_err(|error| error.to_string())?;
+    drop(stdin);
+    match output.stderr.is_empty() {
+        true => Ok((output.status.code(), output.stdout)),
+        false => Err(lossy(&output.stderr)),
+    }
+}
+
+/// The lines that a terminal shows after these bytes, without the blanks at their ends.
+fn shown(bytes: &[u8]) -> Result<String, String> {
+    let mut lines: Vec<Vec<char>> = vec![Vec::new()];
+    let (mut row, mut column) = (0, 0);
+    let text = lossy(bytes);
+    let mut rest = text.chars();
+    while let Some(c) = rest.next() {
+        match c {
+            '\r' => column = 0,
+            '\n' => {
+                row += 1;
+                if row == lines.len() {
+                    lines.push(Vec::new());
+                }
+            }
+            '\x08' => column = usize::saturating_sub(column, 1),
+            '\x1B' => {
+                let sequence: String = rest.by_ref().take(2).collect();
+                match &sequence[..] {
+                    "[K" => lines[row].truncate(column),
+                    "[2" if rest.next() == Some('K') => lines[row].clear(),
+                    "[0" if rest.next() == Some('K') => lines[row].truncate(column),
+                    _ => return Err(format!("the sequence {sequence:?} is not known here")),
+                }
+            }
+            c => {
+                let line = &mut lines[row];
+                if line.len() <= column {
+                    line.resize(column + 1, ' ');
+                }
+                line[column] = c;
+                column += 1;
+            }
+        }
+    }
+    let lines = lines.iter().map(|line| {
+        let line: String = line.iter().collect();
+        line.trim_end().to_string() + "\n"
+    });
+    Ok(lines.collect::<String>().trim_end().to_string())
+}
+
+/// The bar and the table, on a terminal and beside it.
+pub fn progress(g: &mut Group) {
+    let tool = Tool::new(g);
+    let mut all = related_fish(&mut g.random, 40);
+    for one in &mut all {
+        one.words.extend(fish(&mut g.random, 300).words);
+    }
+    let matrix = Matrix::new(&all, 1);
+    let (table, list) = (matrix.table(), matrix.whole_list());
+    tool.put("fish", records(&all));
+    for (option, made) in [("", &table), ("--pairs", &list), ("--threads=1", &table)] {
+        for (line, written, printed, bar) in [
+            // The bar alone is on the terminal, and nothing is left of it.
+            ("fish > out", true, "", true),
+            ("fish -o out", true, "", true),
+            // The bar and the table.
+            ("fish", false, &made[..], true),
+            // The table alone.
+            ("fish 2> out", false, made, false),
+        ] {
+            tool.remove("out");
+            let line = format!("{TOOL} matrix -m 1 {option} {line}");
+            let case = format_args!("{line}");
+            let ran = at_terminal(&tool, &line);
+            let status = ran.as_ref().map(|(status, _)| *status);
+            g.equal(case, status.map_err(Clone::clone), Ok(Some(0)));
+            let bytes = ran.map(|(_, bytes)| bytes).unwrap_or_default();
+            let screen = shown(&bytes)
+                .map(|screen| differing(screen.as_bytes(), printed.trim_end().as_bytes()));
+            g.equal(format_args!("{case}: the screen"), screen, Ok(None));
+            let more = bytes.len() > printed.replace('\n', "\r\n").len();
+            g.equal(format_args!("{case}: the bar"), more, bar);
+            let out = tool.get("out").unwrap_or_default();
+            let expected = if written { made.as_bytes() } else { b"" };
+            g.equal(
+                format_args!("{case}: the file"),
+                differing(&out, expected),
+                None,
+            );
+        }
+    }
+    left_out(g, &tool, &table);
+    encode(g, &tool);
+}
+
+/// What is left out is said on lines of their own before the table.
+fn left_out(g: &mut Group, tool: &Tool, table: &str) {
+    tool.put("bad.txt", "x\n");
+    let ran = at_terminal(tool, &format!("{TOOL} matrix -m 1 -k fish bad.txt"));
+    let seen = ran.and_then(|(status, bytes)| {
+        let screen = shown(&bytes)?;
+        let (line, rest) = screen.split_once('\n').unwrap_or_default();
+        let right = line.starts_with("sigxume: left out: bad.txt, line 1, column 1: ");
+        Ok((status, right, rest == table.trim_end()))
+    });
+    g.equal(format_args!("left out"), seen, Ok((Some(1), true, true)));
+}
+
+/// `encode` prints no records at a terminal.
+fn encode(g: &mut Group, tool: &Tool) {
+    let all = related_fish(&mut g.random, 3);
+    tool.put("fish.txt", text(&all));
+    let ran = at_terminal(tool, &format!("{TOOL} encode fish.txt"));
+    let seen = ran.map(|(status, bytes)| {
+        let screen = shown(&bytes).unwrap_or_default();
+        let lines: Vec<&str> = screen.lines().collect();
+        let right = lines.len() == 2
+            && lines[0].starts_with("sigxume: ")
+            && lines[1] == "Try 'sigxume encode --help'.";
+        (status, right)
+    });
+    g.equal(
+        format_args!("encode to a terminal"),
+        seen,
+        Ok((Some(2), true)),
+    );
+    for line in ["encode fish.txt > out", "encode fish.txt -o out"] {
+        tool.remove("out");
+        let ran = at_terminal(tool, &format!("{TOOL} {line}"));
+        g.equal(format_args!("{line}"), ran, Ok((Some(0), Vec::new())));
+        let expected = Some(records(&all));
+        g.equal(format_args!("{line}: the file"), tool.get("out"), expected);
+    }
+    let ran = at_terminal(tool, &format!("{TOOL} decode out"));
+    let seen = ran.map(|(status, bytes)| (status, lossy(&bytes).replace("\r\n", "\n")));
+    let expected = (Some(0), lossy(&text(&all)));
+    g.equal(format_args!("decode to a terminal"), seen, Ok(expected));
+}

@@ -1,0 +1,179 @@
+//! What the tool must print of comparisons: a listing, a JSON text, tables.
+
+use super::fish::Fish;
+use crate::reference::{self, covered, score, tiling, Tile};
+use crate::wise;
+
+/// The most words of a sequence that is compared by the literal tiling.
+const LITERAL: usize = 300;
+
+/// Two fish and their tiles in the order laid.
+pub struct Compared<'a> {
+    pub first: &'a Fish,
+    pub second: &'a Fish,
+    pub minimum: u32,
+    pub tiles: Vec<Tile>,
+}
+
+impl<'a> Compared<'a> {
+    /// By the literal tiling; by the port of Wise's program where that would take long.
+    pub fn new(first: &'a Fish, second: &'a Fish, minimum: u32) -> Self {
+        let (a, b, least) = (&first.words, &second.words, minimum as usize);
+        let tiles = match a.len().max(b.len()) {
+            0..=LITERAL => tiling(a, b, least),
+            _ => wise::tiling(a, b, least, least.max(20)).0,
+        };
+        Self {
+            first,
+            second,
+            minimum,
+            tiles,
+        }
+    }
+
+    pub fn ids(&self) -> [u32; 2] {
+        [self.first, self.second].map(|fish| fish.id.into())
+    }
+
+    pub fn lengths(&self) -> [usize; 2] {
+        [self.first, self.second].map(|fish| fish.words.len())
+    }
+
+    pub fn covered(&self) -> usize {
+        covered(&self.tiles)
+    }
+
+    pub fn score(&self) -> usize {
+        let [first, second] = self.lengths();
+        score(self.covered(), first, second)
+    }
+
+    pub fn listing(&self) -> String {
+        reference::listing(self.ids(), self.lengths(), self.minimum, &self.tiles)
+    }
+
+    /// The JSON text, in one line.
+    pub fn json(&self) -> String {
+        let [a, b] = self.ids();
+        let [n, m] = self.lengths();
+        let tiles: Vec<String> = self.tiles.iter().map(json_tile).collect();
+        format!(
+            "{{\"fish\":[{a},{b}],\"minimum\":{},\"lengths\":[{n},{m}],\"tiles\":[{}],\
+             \"covered\":{},\"score\":{}}}\n",
+            self.minimum,
+            tiles.join(","),
+            self.covered(),
+            self.score()
+        )
+    }
+}
+
+fn json_tile(tile: &Tile) -> String {
+    format!(
+        "{{\"first\":{},\"second\":{},\"length\":{},\"shift\":{}}}",
+        tile.first,
+        tile.second,
+        tile.length,
+        tile.second as i64 - tile.first as i64
+    )
+}
+
+/// One pair of a matrix: tiles, covered, score.
+#[derive(Clone, Copy, Debug, PartialEq, Eq)]
+pub struct Cell {
+    pub tiles: usize,
+    pub covered: usize,
+    pub score: usize,
+}
+
+impl Cell {
+    pub fn of(compared: &Compared) -> Self {
+        Self {
+            tiles: compared.tiles.len(),
+            covered: compared.covered(),
+            score: compared.score(),
+        }
+    }
+}
+
+/// Every pair of some fish, by rows: (1, 2), (1, 3), .., (2, 3), ..
+pub fn pairs(fish: usize) -> impl Iterator<Item = (usize, usize)> {
+    (0..fish).flat_map(move |row| (row + 1..fish).map(move |column| (row, column)))
+}
+
+/// The numbers of fish and the cells of all their pairs, by rows.
+pub struct Matrix {
+    pub ids: Vec<u16>,
+    pub cells: Vec<Cell>,
+}
+
+impl Matrix {
+    pub fn new(fish: &[Fish], minimum: u32) -> Self {
+        let cell = |(row, column): (usize, usize)| {
+            Cell::of(&Compared::new(&fish[row], &fish[column], minimum))
+        };
+        Self {
+            ids: fish.iter().map(|fish| fish.id).collect(),
+            cells: pairs(fish.len()).map(cell).collect(),
+        }
+    }
+
+    /// The table of scores.
+    pub fn table(&self) -> String {
+        let mut table = String::from("fish");
+        for id in &self.ids {
+            table += &format!(",{id}");
+        }
+        table += "\n";
+        let mut scores = self.cells.iter().map(|cell| cell.score.to_string());
+        for (row, id) in self.ids.iter().enumerate() {
+            table += &id.to_string();
+            for column in 0..self.ids.len() {
+                table += ",";
+                if column > row {
+                    table += &scores.next().expect("a cell for each pair");
+                }
+            }
+            table += "\n";
+        }
+        table
+    }
+
+    /// The list of pairs: its heading, and its other lines.
+    pub fn list(&self) -> (String, Vec<String>) {
+        let lines = pairs(self.ids.len()).zip(&self.cells);
+        let lines = lines.map(|((row, column), cell)| {
+            format!(
+                "{},{},{},{},{},{},{}\n",
+                row + 1,
+                column + 1,
+                self.ids[row],
+                self.ids[column],
+                cell.tiles,
+                cell.covered,
+                cell.score
+            )
+        });
+        (
+            "row,column,first,second,tiles,covered,score\n".into(),
+            lines.collect(),
+        )
+    }
+
+    /// The list of pairs as a whole.
+    pub fn whole_list(&self) -> String {
+        let (heading, lines) = self.list();
+        heading + &lines.concat()
+    }
+
+    /// Part `k` of `n` of the list.
+    pub fn part(&self, k: usize, n: usize) -> String {
+        let (heading, lines) = self.list();
+        let bound = |k: usize| (k as u128 * lines.len() as u128 / n as u128) as usize;
+        let part = lines[bound(k - 1)..bound(k)].concat();
+        match k {
+            1 => heading + &part,
+            _ => part,
+        }
+    }
+}

@@ -1,0 +1,228 @@
+//! Arguments that the tool refuses, its help and its version.
+
+use super::expected::{Expected, Line};
+use super::fish::records;
+use super::matrix::related_fish;
+use super::Tool;
+use crate::group::Group;
+
+/// Each subcommand with its options.
+const OPTIONS: [(&str, &[&str]); 5] = [
+    ("encode", &["-o", "--output", "-h", "--help"]),
+    ("decode", &["-o", "--output", "-h", "--help"]),
+    (
+        "compare",
+        &[
+            "-m",
+            "--minimum",
+            "--fish",
+            "--json",
+            "-o",
+            "--output",
+            "-h",
+            "--help",
+        ],
+    ),
+    (
+        "plot",
+        &[
+            "-m",
+            "--minimum",
+            "--fish",
+            "-o",
+            "--output",
+            "-h",
+            "--help",
+        ],
+    ),
+    (
+        "matrix",
+        &[
+            "-m",
+            "--minimum",
+            "--pairs",
+            "--part",
+            "-k",
+            "--keep-going",
+            "--threads",
+            "-o",
+            "--output",
+            "-h",
+            "--help",
+        ],
+    ),
+];
+
+/// Arguments after `compare`, `plot` and `matrix` alike.
+#[rustfmt::skip]
+const MINIMUMS: [&[&str]; 18] = [
+    &["a"], &["a", "-m"], &["a", "--minimum"], &["a", "-m", ""], &["a", "--minimum="], &["a", "-m", "x"],
+    &["a", "-m", "-1"], &["a", "-m", "+1"], &["a", "-m", "1.5"], &["a", "-m", " 1"], &["a", "-m", "1 "],
+    &["a", "-m", "0x1"], &["a", "-m", "4294967296"], &["a", "-m", "99999999999999999999999"],
+    &["a", "-mx"], &["a", "-m=1"], &["a", "-m", "1", "-m", "1"], &["a", "-m1", "--minimum=2"],
+];
+
+/// Bad values of `--fish`.
+const FISH: [&str; 14] = [
+    "", ",", "1", "1,", ",1", "1,2,3", "a,b", "1,b", "65536,1", "1,65536", "-1,2", "1, 2", "1;2",
+    "1 2",
+];
+
+/// Bad values of `--part`.
+const PARTS: [&str; 14] = [
+    "", "/", "1", "1/", "/2", "0/1", "0/0", "1/0", "2/1", "3/2", "x/2", "1/x", "1/2/3", "-1/2",
+];
+
+/// Other arguments, with the subcommand whose help they should hint at.
+#[rustfmt::skip]
+const ROWS: [(&str, &[&str]); 67] = [
+    ("", &[]), ("", &["nonsense"]), ("", &[""]), ("", &["--nonsense"]), ("", &["-x"]), ("", &["Encode"]),
+    ("", &["encoder"]), ("", &["-"]), ("", &["a"]),
+    ("encode", &["encode", "-x"]), ("encode", &["encode", "--nonsense"]), ("encode", &["encode", "-m", "1"]),
+    ("encode", &["encode", "a", "-o"]), ("encode", &["encode", "a", "--output"]),
+    ("encode", &["encode", "a", "-o", "x", "-o", "y"]), ("encode", &["encode", "-ox", "a", "--output=x"]),
+    ("encode", &["encode", "--json", "a"]), ("encode", &["encode", "--help=x"]), ("encode", &["encode", "--out", "x"]),
+    ("decode", &["decode", "-x"]), ("decode", &["decode", "--nonsense"]), ("decode", &["decode", "--minimum=1", "a"]),
+    ("decode", &["decode", "a", "-o"]), ("decode", &["decode", "-o", "x", "a", "-o", "x"]),
+    ("decode", &["decode", "--pairs", "a"]), ("decode", &["decode", "-k", "a"]),
+    ("compare", &["compare"]), ("compare", &["compare", "-m", "1"]), ("compare", &["compare", "-m", "1", "--"]),
+    ("compare", &["compare", "-m", "1", "a", "a", "a"]), ("compare", &["compare", "-m", "1", "a", "--nonsense"]),
+    ("compare", &["compare", "-m", "1", "a", "-x"]), ("compare", &["compare", "-m", "1", "a", "--pairs"]),
+    ("compare", &["compare", "-m", "1", "a", "-k"]), ("compare", &["compare", "-m", "1", "a", "--threads", "1"]),
+    ("compare", &["compare", "-m", "1", "a", "--part", "1/1"]), ("compare", &["compare", "-m", "1", "a", "--json=1"]),
+    ("compare", &["compare", "-m", "1", "a", "--json", "--json"]), ("compare", &["compare", "-m", "1", "a", "--fish"]),
+    ("compare", &["compare", "-m", "1", "a", "--fish=1,2", "--fish", "1,2"]),
+    ("compare", &["compare", "-m", "1", "a", "-o", "x", "--output", "x"]), ("compare", &["compare", "--", "-m", "1"]),
+    ("compare", &["compare", "-m", "1", "missing", "missing", "missing"]),
+    ("plot", &["plot"]), ("plot", &["plot", "-m", "1"]), ("plot", &["plot", "-m", "1", "a", "a", "a"]),
+    ("plot", &["plot", "-m", "1", "a", "--json"]), ("plot", &["plot", "-m", "1", "a", "--pairs"]),
+    ("plot", &["plot", "-m", "1", "a", "--fish"]), ("plot", &["plot", "-m", "1", "a", "-x"]),
+    ("plot", &["plot", "-m", "1", "a", "--fish", "1,2", "--fish", "1,2"]),
+    ("matrix", &["matrix"]), ("matrix", &["matrix", "-m", "1"]), ("matrix", &["matrix", "-m", "1", "a", "-x"]),
+    ("matrix", &["matrix", "-m", "1", "a", "--json"]), ("matrix", &["matrix", "-m", "1", "a", "--fish", "1,2"]),
+    ("matrix", &["matrix", "-m", "1", "a", "--pairs=1"]), ("matrix", &["matrix", "-m", "1", "a", "--keep-going=1"]),
+    ("matrix", &["matrix", "-m", "1", "a", "--pairs", "--pairs"]), ("matrix", &["matrix", "-m", "1", "a", "-k", "-k"]),
+    ("matrix", &["matrix", "-m", "1", "a", "-k", "--keep-going"]), ("matrix", &["matrix", "-m", "1", "a", "--part", "1/2"]),
+    ("matrix", &["matrix", "-m", "1", "a", "--threads"]), ("matrix", &["matrix", "-m", "1", "a", "--pairs", "--part"]),
+    ("matrix", &["matrix", "-m", "1", "a", "--threads", "1", "--threads=1"]),
+    ("matrix", &["matrix", "-m", "1", "a", "--pairs", "--part", "1/2", "--part", "1/2"]),
+    ("matrix", &["matrix", "-m", "1", "a", "-o"]),
+];
+
+/// The tool must call these arguments bad usage, and hint at a subcommand's help.
+fn refused(g: &mut Group, tool: &Tool, hint: &str, args: &[&str]) {
+    let hint = match hint {
+        "" => "Try 'sigxume --help'.".into(),
+        name => format!("Try 'sigxume {name} --help'."),
+    };
+    let expected = Expected {
+        status: 2,
+        stdout: Vec::new(),
+        stderr: vec![Line::Begins("sigxume: ".into()), Line::Is(hint)],
+    };
+    let names = tool.names();
+    tool.expect(g, format_args!("bad usage"), args, b"12 1\n", &expected);
+    g.equal(format_args!("{args:?}: names"), tool.names(), names);
+}
+
+/// Every rule, one at a time, with files that are there and arguments that are otherwise right.
+fn bad(g: &mut Group, tool: &Tool) {
+    for (hint, args) in ROWS {
+        refused(g, tool, hint, args);
+    }
+    for name in ["compare", "plot", "matrix"] {
+        for rest in MINIMUMS {
+            refused(g, tool, name, &[&[name], rest].concat());
+        }
+    }
+    for name in ["compare", "plot"] {
+        for value in FISH {
+            refused(g, tool, name, &[name, "-m", "1", "a", "--fish", value]);
+            let joined = format!("--fish={value}");
+            refused(g, tool, name, &[name, "-m", "1", "a", &joined]);
+        }
+    }
+    let start = ["matrix", "-m", "1", "a"];
+    for value in PARTS {
+        refused(
+            g,
+            tool,
+            "matrix",
+            &[&start[..], &["--pairs", "--part", value]].concat(),
+        );
+    }
+    for value in ["", "0", "-1", "x", "1.5", "99999999999999999999999"] {
+        refused(
+            g,
+            tool,
+            "matrix",
+            &[&start[..], &["--threads", value]].concat(),
+        );
+    }
+    // Help about nothing that there is.
+    let case = format_args!("help about nothing");
+    let expected = Expected {
+        status: 2,
+        stdout: Vec::new(),
+        stderr: vec![
+            Line::Begins("sigxume: ".into()),
+            Line::Begins("Try 'sigxume ".into()),
+        ],
+    };
+    for args in [&["help", "nonsense"][..], &["help", "compare", "plot"]] {
+        tool.expect(g, case, args, b"", &expected);
+    }
+}
+
+/// What help prints: status 0, nothing on standard error, lines of up to 80 columns, every name there is.
+fn helps(g: &mut Group, tool: &Tool, args: &[&str], names: &[&str]) {
+    let ran = tool.run(args, b"");
+    let seen = ran
+        .as_ref()
+        .map(|ran| (ran.status.code(), crate::process::lossy(&ran.stderr)));
+    g.equal(format_args!("{args:?}"), seen, Ok((Some(0), String::new())));
+    let text = ran
+        .map(|ran| crate::process::lossy(&ran.stdout))
+        .unwrap_or_default();
+    let ends = text.len() > 1 && text.ends_with('\n');
+    g.equal(format_args!("{args:?}: whole lines"), ends, true);
+    let wide = text.lines().find(|line| line.chars().count() > 80);
+    g.equal(format_args!("{args:?}: 80 columns"), wide, None);
+    let mut words = text.split(|c: char| !c.is_ascii_alphanumeric() && c != '-');
+    for name in names {
+        let found = words.clone().any(|word| word == *name);
+        g.equal(format_args!("{args:?}: {name}"), found, true);
+    }
+    g.equal(
+        format_args!("{args:?}: sigxume"),
+        words.any(|word| word == "sigxume"),
+        true,
+    );
+}
+
+/// Bad usage, help and version.
+pub fn usage(g: &mut Group) {
+    let tool = Tool::new(g);
+    let all = related_fish(&mut g.random, 2);
+    tool.put("a", records(&all));
+    bad(g, &tool);
+    let every = OPTIONS.map(|(name, _)| name);
+    for args in [&["help"][..], &["--help"], &["-h"]] {
+        helps(
+            g,
+            &tool,
+            args,
+            &[&every[..], &["help", "--version"]].concat(),
+        );
+    }
+    for (name, options) in OPTIONS {
+        let names = [&[name], options].concat();
+        for args in [["help", name], [name, "--help"], [name, "-h"]] {
+            helps(g, &tool, &args, &names);
+        }
+    }
+    for args in [["--version"], ["-V"]] {
+        let expected = Expected::prints("sigxume 0.1.0\n");
+        tool.expect(g, format_args!("version"), &args, b"", &expected);
+    }
+}
