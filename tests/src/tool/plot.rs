@@ -100,6 +100,11 @@ fn bad(g: &mut Group, tool: &Tool) {
             is("there is no fish 99".into()),
         ),
         (
+            &["plot", "-m", "0", "-", "--fish=12,13"],
+            three,
+            is(refusal(MINIMUM)),
+        ),
+        (
             &["plot", "-m", "257", "-", "--fish=14,12"],
             three,
             is(refusal(MINIMUM)),
