@@ -166,6 +166,11 @@ pub fn bad_lines(g: &mut Group) {
     }
     too_many(g, &tool);
     mutations(g, &tool);
+    // Records are no text, whatever they hold.
+    for length in [0, 1, 9, 48] {
+        let stored = fish(&mut g.random, length).record();
+        refused(g, &tool, format_args!("a record"), &stored, None);
+    }
     // The first bad file is reported.
     let good = text(&any_fishes(&mut g.random, 5));
     tool.put("good.txt", &good);
