@@ -49,6 +49,7 @@ impl Tool {
         let name: String = g.name().replace(|c: char| !c.is_ascii_alphanumeric(), "-");
         let name = format!("sigxume-{}-{name}", std::process::id());
         let folder = std::env::temp_dir().join(name);
+        let _ = fs::remove_dir_all(&folder);
         fs::create_dir_all(&folder).expect("a folder can be made among the temporary ones");
         Self { folder }
     }
