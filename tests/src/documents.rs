@@ -105,38 +105,61 @@ fn printed(command: &str, folder: &Path) -> Result<String, String> {
     Ok(lossy(&ran.stdout))
 }
 
+/// A thing that was looked at, and how it differs.
+type Checked = (String, Option<String>);
+
+/// Runs a document's commands one after another in a folder.
+fn run(document: &Path, folder: &Path) -> Result<Vec<Checked>, String> {
+    let document = fs::read_to_string(document).map_err(|error| error.to_string())?;
+    let checked = |shown: Shown| {
+        let found = printed(&shown.command, folder);
+        let difference = match found {
+            Ok(found) => differing(found.as_bytes(), shown.printed.as_bytes()),
+            Err(error) => Some(error),
+        };
+        (
+            format!("line {}: {}", shown.line, shown.command),
+            difference,
+        )
+    };
+    Ok(commands(&document)?.into_iter().map(checked).collect())
+}
+
 /// Runs the commands of documents, each document in a folder of its own, and compares what is printed and
 /// what is made.
-fn run(g: &mut Group, tool: &Tool, top: &Path, documents: &[&str]) {
+fn check(top: &Path, scratch: &Path, documents: &[&str]) -> Vec<Checked> {
     let example_folder = top.join(EXAMPLE);
     let [given, made] = example(&example_folder);
+    let mut all = Vec::new();
+    let mut folders = Vec::new();
     for (number, name) in documents.iter().enumerate() {
-        let document = fs::read_to_string(top.join(name)).map_err(|error| error.to_string());
-        let commands = document.and_then(|document| commands(&document));
-        let error = commands.as_ref().err().cloned();
-        g.equal(format_args!("{name}, as a document"), error, None);
-        let folder = tool.folder().join(number.to_string());
+        let folder = scratch.join(number.to_string());
         fs::create_dir_all(&folder).expect("a folder can be made");
         for name in &given {
             copy(&example_folder.join(name), &folder.join(name)).expect("an example can be copied");
         }
-        for shown in commands.unwrap_or_default() {
-            let found = printed(&shown.command, &folder);
-            let difference =
-                found.map(|found| differing(found.as_bytes(), shown.printed.as_bytes()));
-            let case = format_args!("{name}, line {}: {}", shown.line, shown.command);
-            g.equal(case, difference, Ok(None));
-        }
+        let run = run(&top.join(name), &folder);
+        all.push((
+            format!("{name}, as a document"),
+            run.as_ref().err().cloned(),
+        ));
+        let run = run.unwrap_or_default().into_iter();
+        all.extend(run.map(|(case, difference)| (format!("{name}, {case}"), difference)));
+        folders.push(folder);
     }
     for name in made {
         let expected = fs::read(example_folder.join(&name)).expect("an example can be read");
-        let folders = (0..documents.len()).map(|number| tool.folder().join(number.to_string()));
-        let found = folders.filter_map(|folder| fs::read(folder.join(&name)).ok());
+        let found = folders
+            .iter()
+            .filter_map(|folder| fs::read(folder.join(&name)).ok());
         let found: Vec<Option<String>> = found.map(|found| differing(&found, &expected)).collect();
-        let right = found.contains(&None);
-        let case = format_args!("{EXAMPLE}/{name}: made by a command ({found:?})");
-        g.equal(case, right, true);
+        let difference = match found.contains(&None) {
+            true => None,
+            false => Some(format!("no command makes it so: {found:?}")),
+        };
+        all.push((format!("{EXAMPLE}/{name}"), difference));
     }
+    all
 }
 
 /// The reading of a document itself.
@@ -192,9 +215,48 @@ $ pwd
     }
 }
 
+/// Documents with known mistakes: each is seen, and nothing else.
+fn mistakes(g: &mut Group, tool: &Tool) {
+    let good = "```console\n$ cat a.txt b/c; echo x >&2\nA\nC\nx\n$ cat a.txt > made; cat a.txt > b.txt\n```\n";
+    let bad = "```console\n$ cat a.txt\nB\n$ echo\n$ printf x\nx\n$ cat b.txt\nA\n$ false\n```\n";
+    for (name, text) in [
+        ("top/good.md", good),
+        ("top/bad.md", bad),
+        ("top/open.md", "```console\n"),
+        ("top/docs/example/a.txt", "A\n"),
+        ("top/docs/example/b/c", "C\n"),
+        ("top/docs/example/made", "A\n"),
+        ("top/docs/example/left", "A\n"),
+    ] {
+        tool.put(name, text);
+    }
+    let documents = ["good.md", "bad.md", "open.md", "none.md"];
+    let top = tool.folder().join("top");
+    let checked = check(&top, &tool.folder().join("mistakes"), &documents);
+    g.equal(format_args!("mistakes: cases"), checked.len(), 13);
+    let seen = checked
+        .iter()
+        .filter(|(_, difference)| difference.is_some());
+    let seen: Vec<&str> = seen.map(|(case, _)| &case[..]).collect();
+    let expected = vec![
+        "bad.md, line 2: cat a.txt",
+        "bad.md, line 4: echo",
+        "bad.md, line 5: printf x",
+        "bad.md, line 7: cat b.txt",
+        "open.md, as a document",
+        "none.md, as a document",
+        "docs/example/left",
+    ];
+    g.equal(format_args!("mistakes"), seen, expected);
+}
+
 /// The commands of every document.
 pub fn commands_run(g: &mut Group) {
-    sample(g);
     let tool = Tool::new(g);
-    run(g, &tool, Path::new(TOP), &DOCUMENTS);
+    sample(g);
+    mistakes(g, &tool);
+    let scratch = tool.folder().join("documents");
+    for (case, difference) in check(Path::new(TOP), &scratch, &DOCUMENTS) {
+        g.equal(format_args!("{case}"), difference, None);
+    }
 }

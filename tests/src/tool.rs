@@ -49,6 +49,7 @@ impl Tool {
         let name: String = g.name().replace(|c: char| !c.is_ascii_alphanumeric(), "-");
         let name = format!("sigxume-{}-{name}", std::process::id());
         let folder = std::env::temp_dir().join(name);
+        let _ = fs::remove_dir_all(&folder);
         fs::create_dir_all(&folder).expect("a folder can be made among the temporary ones");
         Self { folder }
     }
@@ -116,6 +117,15 @@ impl Tool {
         g.equal(format_args!("{case}: {args:?}"), difference, None);
     }
 
+    /// A file must hold what is expected.
+    pub fn expect_file(&self, g: &mut Group, case: Arguments, name: &str, expected: &[u8]) {
+        let difference = match self.get(name) {
+            Some(found) => differing(&found, expected),
+            None => Some("it is not there".into()),
+        };
+        g.equal(format_args!("{case}: the file {name}"), difference, None);
+    }
+
     /// The tool must write this to the file named by `-o`, print nothing, and leave no other file.
     pub fn expect_written(
         &self,
@@ -136,11 +146,7 @@ impl Tool {
             names.sort();
             let args = [args, &["-o", "out"]].concat();
             self.expect(g, case, &args, input, &Expected::prints(""));
-            let difference = match self.get("out") {
-                Some(found) => differing(&found, written),
-                None => Some("no file was written".into()),
-            };
-            g.equal(format_args!("{case}: {args:?}, its file"), difference, None);
+            self.expect_file(g, format_args!("{case}: {args:?}"), "out", written);
             g.equal(format_args!("{case}: {args:?}, names"), self.names(), names);
         }
         self.remove("out");

@@ -2,9 +2,10 @@
 
 use super::expected::{Expected, Line};
 use super::faults::{first, lines, Fault};
-use super::fish::{any_fishes, fish, text, Fish};
+use super::fish::{any_fishes, fish, records, text, Fish};
 use super::Tool;
 use crate::group::Group;
+use crate::process::lossy;
 use crate::random::Random;
 use crate::reference::MAX_WORDS;
 use std::fmt::Arguments;
@@ -91,7 +92,7 @@ fn mutations(g: &mut Group, tool: &Tool) {
             Some(fault) => Expected::fails(fault.line("standard input")),
             None => {
                 let all: Vec<Fish> = read.into_iter().flatten().collect();
-                Expected::prints(super::fish::records(&all))
+                Expected::prints(records(&all))
             }
         };
         let case = format_args!("mutation {number}");
@@ -141,7 +142,7 @@ pub fn bad_lines(g: &mut Group) {
             let good: Vec<Fish> = (0..before).map(|_| fish(&mut g.random, 3)).collect();
             for after in [&b""[..], b"14 1\n", b"x\n"] {
                 let whole = [&text(&good), bad, after].concat();
-                let case = format_args!("{before} lines and {:?}", crate::process::lossy(bad));
+                let case = format_args!("{before} lines and {:?}", lossy(bad));
                 let fault = Fault::Text {
                     line: before + 1,
                     column,
@@ -159,12 +160,17 @@ pub fn bad_lines(g: &mut Group) {
         for before in [0, 2] {
             let good: Vec<Fish> = (0..before).map(|_| fish(&mut g.random, 2)).collect();
             let whole = [&text(&good), end].concat();
-            let case = format_args!("{before} lines and an end {:?}", crate::process::lossy(end));
+            let case = format_args!("{before} lines and an end {:?}", lossy(end));
             refused(g, &tool, case, &whole, Some((before + 1, column)));
         }
     }
     too_many(g, &tool);
     mutations(g, &tool);
+    // Records are no text, whatever they hold.
+    for length in [0, 1, 9, 48] {
+        let stored = fish(&mut g.random, length).record();
+        refused(g, &tool, format_args!("a record"), &stored, None);
+    }
     // The first bad file is reported.
     let good = text(&any_fishes(&mut g.random, 5));
     tool.put("good.txt", &good);

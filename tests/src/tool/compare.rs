@@ -8,8 +8,8 @@ use super::results::Compared;
 use super::Tool;
 use crate::group::Group;
 use crate::known;
-use crate::pairs::{any_pair, distinct, related};
-use crate::process::AT_ONCE;
+use crate::pairs::{any_pair, distinct, periodic, related};
+use crate::process::{lossy, AT_ONCE};
 use crate::program::{self, bytes, input};
 use crate::reference::{MAX_WORDS, MINIMUM};
 use crate::samples::{call, ids, NO_CALL};
@@ -123,7 +123,7 @@ fn bad(g: &mut Group, tool: &Tool) {
     for bytes in texts {
         let fault = first(&lines(bytes)).expect("a fault");
         tool.put("bad", bytes);
-        let case = format_args!("bad text {:?}", crate::process::lossy(bytes));
+        let case = format_args!("bad text {:?}", lossy(bytes));
         for files in [["good", "bad"], ["bad", "good"]] {
             let args = ["compare", "-m", "1", files[0], files[1]];
             tool.expect_failure(g, case, &args, b"", &Expected::fails(fault.line("bad")));
@@ -159,6 +159,30 @@ fn bad(g: &mut Group, tool: &Tool) {
     ] {
         tool.expect_failure(g, format_args!("missing"), args, b"", &missing);
     }
+    tool.put("folder/file", records(&pair));
+    let folder = Expected::fails(Line::Begins("sigxume: folder".into()));
+    for args in [
+        &["compare", "-m", "1", "folder"][..],
+        &["plot", "-m", "1", "good", "folder"],
+        &["encode", "folder"],
+        &["decode", "good", "folder"],
+    ] {
+        tool.expect_failure(g, format_args!("a folder"), args, b"", &folder);
+    }
+}
+
+/// Records that begin like text: the first bytes of a header may be a digit and letters.
+fn like_text(g: &mut Group, tool: &Tool) {
+    // The bytes of its header after the count are `@`, `1` and `0`.
+    let id = 0x30 << 10 | 0x31 << 2 | 1;
+    for count in [b'\t', b'\n', b'\r', b' ', b'0', b'1', b'9', b'?'] {
+        let words = periodic(count.into(), 7, 0);
+        let pair = [Fish::new(id, &words), Fish::new(id + 1, &words)];
+        let start = &records(&pair)[..4];
+        let case = format_args!("records that begin with {:?}", lossy(start));
+        g.equal(case, start, &[count, b'@', b'1', b'0'][..]);
+        listed(g, tool, case, &pair, 3);
+    }
 }
 
 /// Known, random and large pairs.
@@ -188,6 +212,7 @@ pub fn compare(g: &mut Group) {
         let case = format_args!("larger pair {number}");
         as_the_program(g, &tool, case, pair, *minimum);
     }
+    like_text(g, &tool);
     choice::chosen(g, &tool);
     choice::very_many(g, &tool);
     minimums(g, &tool);

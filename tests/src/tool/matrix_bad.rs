@@ -1,6 +1,6 @@
 //! `matrix` on bad input: without and with `--keep-going`.
 
-use super::expected::{differing, Expected, Line};
+use super::expected::{Expected, Line};
 use super::faults::{either, refusal};
 use super::fish::{any_fish, fish, records, text, Fish};
 use super::matrix::related_fish;
@@ -89,9 +89,7 @@ pub fn check(
             ..kept.clone()
         };
         tool.expect(g, case, &args, input, &written);
-        let out = tool.get("out");
-        let difference = out.map(|found| differing(&found, &kept.stdout));
-        g.equal(format_args!("{case}: the file"), difference, Some(None));
+        tool.expect_file(g, case, "out", &kept.stdout);
         tool.remove("out");
     }
 }

@@ -61,8 +61,9 @@ fn names(g: &mut Group, tool: &Tool, all: &[Fish]) {
     let name = OsStr::from_bytes(b"fish\xFF.txt");
     std::fs::write(tool.folder().join(name), text(all)).expect("a file can be written");
     let ran = tool.command(&["encode"]).arg(name).output();
-    let seen = ran.map(|ran| (ran.status.code(), ran.stdout));
-    let seen = seen.map_err(|error| error.to_string());
-    let case = format_args!("a name that is not UTF-8");
-    g.equal(case, seen, Ok((Some(0), records(all))));
+    let difference = match ran {
+        Ok(ran) => Expected::prints(records(all)).difference(&ran),
+        Err(error) => Some(error.to_string()),
+    };
+    g.equal(format_args!("a name that is not UTF-8"), difference, None);
 }

@@ -8,7 +8,7 @@ use std::fmt::Arguments;
 
 /// Prints of each picture: `picture`, the parts that each must have, its tiles, its texts.
 pub const SCRIPT: &str = r#"
-import re, sys
+import re
 import xml.etree.ElementTree as E
 ns = '{http://www.w3.org/2000/svg}'
 for n in range(int(open('count').read())):
@@ -24,9 +24,20 @@ for n in range(int(open('count').read())):
     outside = [link for link in links if not re.search(r'^#|url\(#', link)]
     scripts = [e.tag for e in every if e.tag == ns + 'script' or any(k.startswith('on') for k in e.attrib)]
     print('outside', len(outside), len(scripts), '<!' in re.sub(r'<!--.*?-->', '', raw, flags=re.S), '@import' in raw)
-    print('decimals', bool(re.search(r'\.\d{7}', raw)), 'nan' in raw.lower(), 'inf' in raw)
+    values = ' '.join(value for e in every for value in e.attrib.values())
+    print('numbers', *(bool(re.search(r, values)) for r in (r'\.\d{7}', r'(?i)\b(nan|inf)\b', r'\de[-+]?\d')))
     groups = [e for e in every if e.get('id') == 'tiles']
     print('groups', *(e.tag == ns + 'g' and 'scale(' in e.get('transform', '') for e in groups))
+    def inside(e):
+        parts = re.findall(r'(translate|scale)\(([-\d.]+)[ ,]+([-\d.]+)\)', e.get('transform', ''))
+        w, h = float(root.get('width')), float(root.get('height'))
+        def at(x, y):
+            for name, a, b in reversed(parts):
+                x, y = (x + float(a), y + float(b)) if name == 'translate' else (x * float(a), y * float(b))
+            return 0 <= x <= w and 0 <= y <= h
+        ends = [at(float(l.get('x' + n)), float(l.get('y' + n))) for l in e.iter(ns + 'line') for n in '12']
+        return len(parts) > 0 and all(ends)
+    print('inside', *map(inside, groups))
     def tile(e): return e.tag == ns + 'line' and 'tile' in e.get('class', '').split()
     print('tiles', sum(map(tile, every)))
     for group in groups:
@@ -39,12 +50,13 @@ for n in range(int(open('count').read())):
 "#;
 
 /// What the script prints of every picture before its tiles.
-const PARTS: [&str; 5] = [
+const PARTS: [&str; 6] = [
     "root True 1.1 True",
     "described True True",
     "outside 0 0 False False",
-    "decimals False False False",
+    "numbers False False False",
     "groups True",
+    "inside True",
 ];
 
 /// The tile of a line that the script prints, and whether it is kept.

@@ -80,7 +80,22 @@ pub fn plot(g: &mut Group) {
         let compared = Compared::new(&pair[0], &pair[1], *minimum);
         picture::check(g, format_args!("pair {number}"), part, &compared);
     }
+    chosen(g, &tool);
     bad(g, &tool);
+}
+
+/// The first of the two fish that are named is the first of the picture.
+fn chosen(g: &mut Group, tool: &Tool) {
+    let all = [(12, "caabaad"), (13, "baadcaaaabaa"), (14, "abcde")];
+    let all = all.map(|(id, name)| Fish::new(id, &known::letters(name)));
+    tool.put("all", records(&all));
+    for (names, pair) in [("12,14", [0, 2]), ("14,12", [2, 0]), ("13,12", [1, 0])] {
+        let pair = pair.map(|at| all[at].clone());
+        let ran = tool.run(&["plot", "-m", "1", "-"], &text(&pair));
+        let same = Expected::prints(ran.map(|ran| ran.stdout).unwrap_or_default());
+        let args = ["plot", "-m", "1", "--fish", names, "all"];
+        tool.expect(g, format_args!("chosen"), &args, b"", &same);
+    }
 }
 
 /// Input that is refused: as by `compare`.
@@ -98,6 +113,11 @@ fn bad(g: &mut Group, tool: &Tool) {
             &["plot", "-m", "1", "-", "--fish=12,99"],
             three,
             is("there is no fish 99".into()),
+        ),
+        (
+            &["plot", "-m", "0", "-", "--fish=12,13"],
+            three,
+            is(refusal(MINIMUM)),
         ),
         (
             &["plot", "-m", "257", "-", "--fish=14,12"],

@@ -4,7 +4,7 @@ use super::expected::differing;
 use super::fish::{fish, records, text};
 use super::matrix::related_fish;
 use super::results::Matrix;
-use super::{Tool, TOOL};
+use super::{Tool, PROGRAMS};
 use crate::group::Group;
 use crate::process::lossy;
 use std::process::{Command, Stdio};
@@ -12,7 +12,9 @@ use std::process::{Command, Stdio};
 /// What a command writes to a pseudo-terminal, and its status.
 fn at_terminal(tool: &Tool, line: &str) -> Result<(Option<i32>, Vec<u8>), String> {
     let mut command = Command::new("script");
+    let path = std::env::var("PATH").unwrap_or_default();
     command.current_dir(tool.folder()).env("SHELL", "/bin/sh");
+    command.env("PATH", format!("{PROGRAMS}:{path}"));
     command.args(["-qec", line, "/dev/null"]);
     let pipe = Stdio::piped;
     let command = command.stdin(pipe()).stdout(pipe()).stderr(pipe());
@@ -94,7 +96,7 @@ pub fn progress(g: &mut Group) {
             ("fish 2> out", false, made, false),
         ] {
             tool.remove("out");
-            let line = format!("{TOOL} matrix -m 1 {option} {line}");
+            let line = format!("sigxume matrix -m 1 {option} {line}");
             let case = format_args!("{line}");
             let ran = at_terminal(&tool, &line);
             let status = ran.as_ref().map(|(status, _)| *status);
@@ -121,7 +123,7 @@ pub fn progress(g: &mut Group) {
 /// What is left out is said on lines of their own before the table.
 fn left_out(g: &mut Group, tool: &Tool, table: &str) {
     tool.put("bad.txt", "x\n");
-    let ran = at_terminal(tool, &format!("{TOOL} matrix -m 1 -k fish bad.txt"));
+    let ran = at_terminal(tool, "sigxume matrix -m 1 -k fish bad.txt");
     let seen = ran.and_then(|(status, bytes)| {
         let screen = shown(&bytes)?;
         let (line, rest) = screen.split_once('\n').unwrap_or_default();
@@ -135,7 +137,7 @@ fn left_out(g: &mut Group, tool: &Tool, table: &str) {
 fn encode(g: &mut Group, tool: &Tool) {
     let all = related_fish(&mut g.random, 3);
     tool.put("fish.txt", text(&all));
-    let ran = at_terminal(tool, &format!("{TOOL} encode fish.txt"));
+    let ran = at_terminal(tool, "sigxume encode fish.txt");
     let seen = ran.map(|(status, bytes)| {
         let screen = shown(&bytes).unwrap_or_default();
         let lines: Vec<&str> = screen.lines().collect();
@@ -151,12 +153,11 @@ fn encode(g: &mut Group, tool: &Tool) {
     );
     for line in ["encode fish.txt > out", "encode fish.txt -o out"] {
         tool.remove("out");
-        let ran = at_terminal(tool, &format!("{TOOL} {line}"));
+        let ran = at_terminal(tool, &format!("sigxume {line}"));
         g.equal(format_args!("{line}"), ran, Ok((Some(0), Vec::new())));
-        let expected = Some(records(&all));
-        g.equal(format_args!("{line}: the file"), tool.get("out"), expected);
+        tool.expect_file(g, format_args!("{line}"), "out", &records(&all));
     }
-    let ran = at_terminal(tool, &format!("{TOOL} decode out"));
+    let ran = at_terminal(tool, "sigxume decode out");
     let seen = ran.map(|(status, bytes)| (status, lossy(&bytes).replace("\r\n", "\n")));
     let expected = (Some(0), lossy(&text(&all)));
     g.equal(format_args!("decode to a terminal"), seen, Ok(expected));

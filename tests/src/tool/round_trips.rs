@@ -79,11 +79,7 @@ fn outputs(g: &mut Group, tool: &Tool) {
         tool.remove("made");
         let case = format_args!("output");
         tool.expect(g, case, args, b"", &printed);
-        g.equal(
-            format_args!("{args:?}"),
-            tool.get("made"),
-            Some(made.clone()),
-        );
+        tool.expect_file(g, format_args!("{args:?}"), "made", &made);
     }
     // Everything is read before anything is written.
     tool.put("same", &lines);
@@ -91,11 +87,7 @@ fn outputs(g: &mut Group, tool: &Tool) {
     tool.expect(g, format_args!("input is output"), &args, b"", &printed);
     let args = ["decode", "same", "-o", "same"];
     tool.expect(g, format_args!("input is output"), &args, b"", &printed);
-    g.equal(
-        format_args!("there and back"),
-        tool.get("same"),
-        Some(lines),
-    );
+    tool.expect_file(g, format_args!("there and back"), "same", &lines);
 }
 
 /// Random fish, fish at the limits, no fish, and very many.

@@ -5,6 +5,7 @@ use super::fish::records;
 use super::matrix::related_fish;
 use super::Tool;
 use crate::group::Group;
+use crate::process::lossy;
 
 /// Each subcommand with its options.
 const OPTIONS: [(&str, &[&str]); 5] = [
@@ -179,11 +180,9 @@ fn helps(g: &mut Group, tool: &Tool, args: &[&str], names: &[&str]) {
     let ran = tool.run(args, b"");
     let seen = ran
         .as_ref()
-        .map(|ran| (ran.status.code(), crate::process::lossy(&ran.stderr)));
+        .map(|ran| (ran.status.code(), lossy(&ran.stderr)));
     g.equal(format_args!("{args:?}"), seen, Ok((Some(0), String::new())));
-    let text = ran
-        .map(|ran| crate::process::lossy(&ran.stdout))
-        .unwrap_or_default();
+    let text = ran.map(|ran| lossy(&ran.stdout)).unwrap_or_default();
     let ends = text.len() > 1 && text.ends_with('\n');
     g.equal(format_args!("{args:?}: whole lines"), ends, true);
     let wide = text.lines().find(|line| line.chars().count() > 80);
