@@ -2,7 +2,7 @@
 SHELL := /bin/bash
 .SHELLFLAGS := -euo pipefail -c
 .ONESHELL:
-.PHONY: pair tool library test bench check clean
+.PHONY: pair tool library example test bench check clean
 
 # Runs a command and shows what it printed only if it failed.
 define quietly
@@ -25,6 +25,15 @@ library:
 	install -C -m 644 target/staticlib/libcapi.a target/library/libsigxume.a
 	install -C -m 644 c/sigxume.h target/library/sigxume.h
 
+# Builds the C example and runs it: it prints what the pair program prints. Where there is a C++ compiler it takes the header too.
+example: library
+	@mkdir -p target/c
+	cc -std=c99 -Wall -Wextra -Wpedantic -Werror -O2 -I target/library c/example.c target/library/libsigxume.a -o target/c/example
+	target/c/example | cmp - crates/pair/stdout
+	if command -v c++ > /dev/null; then
+		c++ -Wall -Wextra -Wpedantic -Werror -I target/library -fsyntax-only -x c++ - <<< '#include "sigxume.h"'
+	fi
+
 # Builds the command-line tool, target/bin/sigxume.
 tool: library
 	@cargo build --quiet --release --package sigxume-tool
@@ -39,6 +48,7 @@ test:
 	rt fmt --check
 	rt ci | tee "$$log"
 	$(MAKE) --no-print-directory tool
+	$(MAKE) --no-print-directory example
 	cargo test --quiet --package sigxume
 	cargo run --quiet --profile checked --bin tests
 	tail -n 1 "$$log"
