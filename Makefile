@@ -2,7 +2,7 @@
 SHELL := /bin/bash
 .SHELLFLAGS := -euo pipefail -c
 .ONESHELL:
-.PHONY: pair tool library example test bench check clean
+.PHONY: pair tool library example test bench fuzz check clean
 
 # Runs a command and shows what it printed only if it failed.
 define quietly
@@ -57,6 +57,19 @@ test:
 # not kept. Needs valgrind.
 bench: tool
 	@cargo run --quiet --release --bin benchmark
+
+# Tries the C interface with libFuzzer for FUZZ_SECONDS, from the corpus that earlier runs left in target/fuzz. Needs clang.
+FUZZ_SECONDS ?= 600
+fuzz: library
+	@mkdir -p target/fuzz/corpus
+	clang -std=c99 -Wall -Wextra -Wpedantic -Werror -DSEEDS -I target/library c/fuzz.c target/library/libsigxume.a -o target/fuzz/seeds
+	target/fuzz/seeds target/fuzz/corpus < crates/pair/stdin
+	clang -std=c99 -Wall -Wextra -Wpedantic -Werror -g -O1 -fsanitize=fuzzer,address,undefined -fno-sanitize-recover=undefined \
+		-I target/library c/fuzz.c target/library/libsigxume.a -o target/fuzz/fuzz
+	echo "Fuzzing for $(FUZZ_SECONDS) seconds; the log is target/fuzz/log."
+	target/fuzz/fuzz -max_len=20000 -timeout=20 -max_total_time=$(FUZZ_SECONDS) -print_final_stats=1 \
+		-artifact_prefix=target/fuzz/ target/fuzz/corpus > target/fuzz/log 2>&1 || { tail -n 60 target/fuzz/log; exit 1; }
+	grep -E 'DONE|^stat::' target/fuzz/log
 
 # The quick loop: proves what has changed.
 check:
