@@ -53,9 +53,9 @@ struct plan {
 };
 
 /* What the fuzzer is told of the answers: it keeps inputs that show something new. */
-__attribute__((section("__libfuzzer_extra_counters"))) static uint8_t counters[1 << 14];
+enum { SAW_CAUSES, SAW_REFUSAL, SAW_TILES, SAW_LONGEST, SAW_SCORE, SAW_COVERED, SAW_READ, SAW_ALL, SAW_HASHES, SIGHTS };
 
-enum { SAW_REFUSAL, SAW_TILES, SAW_LONGEST, SAW_SCORE, SAW_COVERED, SAW_READ, SAW_ALL, SAW_HASHES };
+__attribute__((section("__libfuzzer_extra_counters"))) static uint8_t counters[SIGHTS * 64 * 32];
 
 static void saw(size_t what, size_t a, size_t b)
 {
@@ -163,7 +163,29 @@ static uint32_t trailer(uint32_t header, const uint32_t *sequence, size_t count)
     return 3u << 30 | (uint32_t)(sum % (1u << 30));
 }
 
-static uint32_t read_refusal(const uint32_t *src, size_t len, size_t room)
+/* A refusal's number, and whether its cause holds. */
+struct cause {
+    uint32_t number;
+    bool holds;
+};
+
+/* The number of the first cause that holds, 0 for none. The fuzzer is told which hold together, since only that tells the order. */
+static uint32_t first_of(const struct plan *plan, const struct cause *causes, size_t len)
+{
+    uint32_t number = 0;
+    for (size_t i = len; i-- > 0;)
+        if (causes[i].holds) {
+            number = causes[i].number;
+            for (size_t j = i; j < len; j++)
+                if (causes[j].holds)
+                    saw(SAW_CAUSES, plan->kind * 8 + i, j);
+        }
+    return number;
+}
+
+#define FIRST_OF(plan, causes) first_of(plan, causes, sizeof(causes) / sizeof *(causes))
+
+static uint32_t read_refusal(const struct plan *plan, const uint32_t *src, size_t len, size_t room)
 {
     if (len == 0)
         return 8;
@@ -172,50 +194,49 @@ static uint32_t read_refusal(const uint32_t *src, size_t len, size_t room)
         return 9;
     if (len < count + 2)
         return 8;
-    if (!sound(src + 1, count))
-        return 2;
-    if (src[count + 1] != trailer(src[0], src + 1, count))
-        return 10;
-    return room < count ? 11 : 0;
+    struct cause causes[] = {
+        {2, !sound(src + 1, count)},
+        {10, src[count + 1] != trailer(src[0], src + 1, count)},
+        {11, room < count},
+    };
+    return FIRST_OF(plan, causes);
 }
 
-static uint32_t write_refusal(const uint32_t *sequence, size_t len, size_t room)
+static uint32_t write_refusal(const struct plan *plan, const uint32_t *sequence, size_t len, size_t room)
 {
-    if (len > 2048)
-        return 1;
-    if (!sound(sequence, len))
-        return 2;
-    return room < len + 2 ? 11 : 0;
+    struct cause causes[] = {
+        {1, len > 2048},
+        {2, !sound(sequence, len)},
+        {11, room < len + 2},
+    };
+    return FIRST_OF(plan, causes);
 }
 
-static uint32_t hash_refusal(const uint32_t *words, size_t len, uint32_t window, size_t room)
+static uint32_t hash_refusal(const struct plan *plan, const uint32_t *words, size_t len, uint32_t window, size_t room)
 {
-    if (len > 2048)
-        return 1;
-    if (!sound(words, len))
-        return 2;
-    if (window < 1 || window > 2048)
-        return 5;
-    return window <= len && room < len - window + 1 ? 11 : 0;
+    struct cause causes[] = {
+        {1, len > 2048},
+        {2, !sound(words, len)},
+        {5, window < 1 || window > 2048},
+        {11, window >= 1 && window <= len && room < len - window + 1},
+    };
+    return FIRST_OF(plan, causes);
 }
 
 static uint32_t compare_refusal(
-    const uint32_t *first, size_t n, const uint32_t *second, size_t m, const struct plan *plan, bool fast, size_t workspace,
+    const struct plan *plan, bool fast, const uint32_t *first, size_t n, const uint32_t *second, size_t m, size_t workspace,
     size_t tiles)
 {
-    if (n > 2048 || m > 2048)
-        return 1;
-    if (!sound(first, n) || !sound(second, m))
-        return 2;
-    if (plan->minimum < 1 || plan->minimum > 256)
-        return 3;
-    if (fast && (plan->buckets < 1 || plan->buckets > 1024))
-        return 4;
-    if (fast && (plan->start < plan->minimum || plan->start > 2048))
-        return 5;
-    if (workspace < 4 * (n + m))
-        return 6;
-    return tiles < 3 * ((n < m ? n : m) / plan->minimum) ? 7 : 0;
+    struct cause causes[] = {
+        {1, n > 2048 || m > 2048},
+        {2, !sound(first, n) || !sound(second, m)},
+        {3, plan->minimum < 1 || plan->minimum > 256},
+        {4, fast && (plan->buckets < 1 || plan->buckets > 1024)},
+        {5, fast && (plan->start < plan->minimum || plan->start > 2048)},
+        {6, workspace < 4 * (n + m)},
+        {7, plan->minimum >= 1 && tiles < 3 * ((n < m ? n : m) / plan->minimum)},
+    };
+    return FIRST_OF(plan, causes);
 }
 
 static size_t room_of(size_t asked, unsigned choice)
@@ -261,7 +282,7 @@ static sigxume_read_answer try_read(const struct plan *plan, const uint32_t *wor
     struct slice s = lend(FIRST, words, len, plan->null);
     struct slice b = lend(SECOND, NULL, room, plan->null);
     sigxume_read_answer read = sigxume_read(s.at, s.len, b.at, b.len);
-    MUST(read.refusal == read_refusal(words, len, room));
+    MUST(read.refusal == read_refusal(plan, words, len, room));
     must_keep(s, 0);
     saw(SAW_REFUSAL, plan->kind, read.refusal);
     saw(SAW_READ, bits(len), read.refusal);
@@ -307,7 +328,7 @@ static void try_write(const struct plan *plan, const uint32_t *words, size_t len
     struct slice s = lend(FIRST, words, len, plan->null);
     struct slice b = lend(SECOND, NULL, room_of(len + 2, plan->room[2]), plan->null);
     sigxume_counted written = sigxume_write(plan->id, s.at, s.len, b.at, b.len);
-    MUST(written.refusal == write_refusal(words, len, b.len));
+    MUST(written.refusal == write_refusal(plan, words, len, b.len));
     must_keep(s, 0);
     saw(SAW_REFUSAL, plan->kind, written.refusal);
     if (written.refusal != 0) {
@@ -344,7 +365,7 @@ static void try_hashes(const struct plan *plan, const uint32_t *words, size_t le
     struct slice b = lend(SECOND, NULL, room_of(fits, plan->room[2]), plan->null);
     sigxume_counted hashes = sigxume_hash_list(s.at, s.len, plan->multiplier, window, b.at, b.len);
     MUST(sigxume_hash_words(len, window) == fits);
-    MUST(hashes.refusal == hash_refusal(words, len, window, b.len));
+    MUST(hashes.refusal == hash_refusal(plan, words, len, window, b.len));
     must_keep(s, 0);
     saw(SAW_REFUSAL, plan->kind, hashes.refusal);
     if (hashes.refusal != 0) {
@@ -367,7 +388,7 @@ static void must_be_the_tiling(
     const uint32_t *first, size_t n, const uint32_t *second, size_t m, uint32_t minimum, const uint32_t *tiles, size_t count)
 {
     static bool marked[2][SMALL];
-    static size_t run[SMALL];
+    static size_t run[SMALL + 1];
     bool straight = n <= m;
     const uint32_t *pattern = straight ? first : second, *text = straight ? second : first;
     size_t rows = straight ? n : m, columns = straight ? m : n;
@@ -375,12 +396,12 @@ static void must_be_the_tiling(
     memset(marked[1], 0, columns);
     for (size_t laid = 0;; laid++) {
         size_t p = 0, t = 0, length = 0;
-        memset(run, 0, columns * sizeof *run);
-        /* From the last row up, run[j] is the run at (i, j); one that is as long and found later comes earlier. */
+        memset(run, 0, (columns + 1) * sizeof *run);
+        /* From the last row up, run[j] is the run at (i, j): until it is set, run[j + 1] is that of the row below. Of equal runs the
+         * one in the upper row is taken, and in a row the first. */
         for (size_t i = rows; i-- > 0;)
             for (size_t j = 0; j < columns; j++) {
-                size_t below = j + 1 < columns && i + 1 < rows ? run[j + 1] : 0;
-                run[j] = match(pattern[i], text[j]) && !marked[0][i] && !marked[1][j] ? below + 1 : 0;
+                run[j] = match(pattern[i], text[j]) && !marked[0][i] && !marked[1][j] ? run[j + 1] + 1 : 0;
                 if (run[j] > length || (run[j] == length && length != 0 && i < p)) {
                     length = run[j];
                     p = i;
@@ -473,7 +494,7 @@ static sigxume_compared try_engine(
         fast ? sigxume_compare_fast(
                    a.at, a.len, b.at, b.len, plan->minimum, plan->multiplier, plan->buckets, plan->start, w.at, w.len, t.at, t.len)
              : sigxume_compare_plain(a.at, a.len, b.at, b.len, plan->minimum, w.at, w.len, t.at, t.len);
-    MUST(answer.refusal == compare_refusal(first, n, second, m, plan, fast, w.len, t.len));
+    MUST(answer.refusal == compare_refusal(plan, fast, first, n, second, m, w.len, t.len));
     must_keep(a, 0);
     must_keep(b, 0);
     saw(SAW_REFUSAL, plan->kind + (fast ? 16 : 0), answer.refusal);
@@ -785,6 +806,14 @@ size_t LLVMFuzzerCustomMutator(uint8_t *data, size_t size, size_t max_size, unsi
     size = LLVMFuzzerMutate(data, size, max_size);
     if (size < PLAN)
         return size;
+
+    /* Settings at their limits, and buffers that are too short. */
+    static const uint32_t limits[] = {0, 1, 2, 19, 20, 21, 255, 256, 257, 1023, 1024, 1025, 2047, 2048, 2049};
+    if (below(4) == 0)
+        put_word(data + 8 + 4 * below(4), limits[below(sizeof limits / sizeof *limits)]);
+    if (below(4) == 0)
+        data[3] = (uint8_t)below(64);
+
     struct plan plan = plan_of(data);
     uint8_t *bytes = data + PLAN;
     size_t len = (size - PLAN) / 4;
