@@ -397,8 +397,8 @@ static void must_be_the_tiling(
     for (size_t laid = 0;; laid++) {
         size_t p = 0, t = 0, length = 0;
         memset(run, 0, (columns + 1) * sizeof *run);
-        /* From the last row up, run[j] is the run at (i, j): until it is set, run[j + 1] is that of the row below. Of equal runs the
-         * one in the upper row is taken, and in a row the first. */
+        /* From the last row up, run[j] is the run at (i, j): until it is set, run[j + 1] is that of the row below. Of equal runs
+         * the one in the upper row is taken, and in a row the first. */
         for (size_t i = rows; i-- > 0;)
             for (size_t j = 0; j < columns; j++) {
                 run[j] = match(pattern[i], text[j]) && !marked[0][i] && !marked[1][j] ? run[j + 1] + 1 : 0;

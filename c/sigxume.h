@@ -3,9 +3,17 @@
  *
  * The work is done by a core written in Rattle and proved for every input: it answers what the definition of the tiling says, it
  * touches nothing but what it is lent, and it ends. This header only says how to call it. Link with libsigxume.a, which is for
- * x86-64 and needs nothing but the C library's memset. c/example.c is a whole program.
+ * x86-64 and needs nothing but the C library's memset. c/example.c is a whole program; a comparison is
  *
- * Words. A word is a uint32_t. Its top two bits are its kind.
+ *     static uint32_t workspace[SIGXUME_MAX_WORKSPACE_WORDS], tiles[SIGXUME_MAX_TILE_WORDS];
+ *     sigxume_compared answer = sigxume_compare_fast(
+ *         first, n, second, m, minimum, SIGXUME_MULTIPLIER, SIGXUME_BUCKETS, sigxume_start(minimum),
+ *         workspace, SIGXUME_MAX_WORKSPACE_WORDS, tiles, SIGXUME_MAX_TILE_WORDS);
+ *     if (answer.refusal == SIGXUME_ACCEPTED)
+ *         for (uint32_t i = 0; i < answer.tiles; i++)
+ *             use(sigxume_tile_at(tiles, i));
+ *
+ * A word is a uint32_t. Its top two bits are its kind.
  *
  *     kind  word     other bits
  *     0     header   29 to 14 the fish's number, its id; 13 to 0 the count of words between header and trailer, 0 to 2,048
@@ -19,8 +27,9 @@
  * header, the sequence, a trailer. In a file each word is four bytes, lowest byte first, so on x86-64 a file's bytes can be read
  * into words as they are, and written from them.
  *
- * A tile is a stretch of words that is the same in both sequences: all its words match one by one. The tiling lays the longest
- * first, never twice on one word of a sequence, until nothing of at least the minimum length is left to lay.
+ * A tile is a stretch of words of both sequences that match one by one. The tiling always lays the longest that there is on words
+ * not yet covered; of equally long ones the one that starts first in the shorter sequence, or in the first where both are as long,
+ * and then the one that starts first in the other. It ends when there is none of at least the minimum length.
  *
  * Rules that hold for every function:
  *
@@ -45,7 +54,7 @@
 extern "C" {
 #endif
 
-/* The most words of a sequence, of a record, of a workspace that is needed and of a tile buffer that is needed: buffers of these
+/* The most words of a sequence and of a record, and the most that is ever asked of a workspace and of a tile buffer: buffers of these
  * sizes serve for everything. */
 #define SIGXUME_MAX_WORDS 2048
 #define SIGXUME_MAX_RECORD_WORDS 2050
@@ -112,8 +121,8 @@ typedef struct sigxume_tile {
 } sigxume_tile;
 
 /*
- * How large a buffer must be, in words. These are right for any arguments: where the size would exceed a size_t it is SIZE_MAX.
- * For a heap buffer calloc(size, sizeof(uint32_t)) is right too: malloc of a product is not, unless lengths were checked.
+ * How large a buffer must be, in words. Any arguments may be given: a size that exceeds a size_t is SIZE_MAX. Take a heap buffer
+ * from calloc(size, sizeof(uint32_t)), which sees where the bytes would be too many.
  */
 
 /* The words that a comparison of sequences of these lengths asks of its workspace: four for each word of both. */
@@ -229,8 +238,8 @@ sigxume_counted sigxume_hash_list(
 /*
  * Compares two sequences by the fast engine, Running Karp-Rabin greedy string tiling. The tiles, each of at least minimum words,
  * go to the start of tiles in the order laid, so from the longest to the shortest; the other words of tiles keep their values. The
- * whole workspace, all workspace_len words, is zero afterwards, whatever it held. The multiplier may be any number; start is the
- * first search length.
+ * workspace may hold anything, and all its workspace_len words are zero afterwards. The multiplier may be any number; start is
+ * the first search length.
  *
  * Refused, in this order: TOO_LONG (1), UNSOUND (2), MINIMUM (3), BUCKETS (4), SEARCH_LENGTH (5), WORKSPACE (6),
  * TILE_BUFFER (7). Workspace and tiles are then as they were.
