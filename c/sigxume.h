@@ -54,8 +54,8 @@
 extern "C" {
 #endif
 
-/* The most words of a sequence and of a record, and the most that is ever asked of a workspace and of a tile buffer: buffers of these
- * sizes serve for everything. */
+/* The most words of a sequence and of a record, and the most that is ever asked of a workspace and of a tile buffer: buffers of
+ * these sizes serve for everything. */
 #define SIGXUME_MAX_WORDS 2048
 #define SIGXUME_MAX_RECORD_WORDS 2050
 #define SIGXUME_MAX_WORKSPACE_WORDS 16384
