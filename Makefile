@@ -2,7 +2,7 @@
 SHELL := /bin/bash
 .SHELLFLAGS := -euo pipefail -c
 .ONESHELL:
-.PHONY: pair tool library test bench check clean
+.PHONY: pair tool library example test bench fuzz check clean
 
 # Runs a command and shows what it printed only if it failed.
 define quietly
@@ -25,6 +25,15 @@ library:
 	install -C -m 644 target/staticlib/libcapi.a target/library/libsigxume.a
 	install -C -m 644 c/sigxume.h target/library/sigxume.h
 
+# Builds the C example and runs it: it prints what the pair program prints. Where there is a C++ compiler it takes the header too.
+example: library
+	@mkdir -p target/c
+	cc -std=c99 -Wall -Wextra -Wpedantic -Werror -O2 -I target/library c/example.c target/library/libsigxume.a -o target/c/example
+	target/c/example | cmp - crates/pair/stdout
+	if command -v c++ > /dev/null; then
+		c++ -Wall -Wextra -Wpedantic -Werror -I target/library -fsyntax-only -x c++ - <<< '#include "sigxume.h"'
+	fi
+
 # Builds the command-line tool, target/bin/sigxume.
 tool: library
 	@cargo build --quiet --release --package sigxume-tool
@@ -39,6 +48,7 @@ test:
 	rt fmt --check
 	rt ci | tee "$$log"
 	$(MAKE) --no-print-directory tool
+	$(MAKE) --no-print-directory example
 	cargo test --quiet --package sigxume
 	cargo run --quiet --profile checked --bin tests
 	tail -n 1 "$$log"
@@ -47,6 +57,19 @@ test:
 # not kept. Needs valgrind.
 bench: tool
 	@cargo run --quiet --release --bin benchmark
+
+# Tries the C interface with libFuzzer for FUZZ_SECONDS, from the corpus that earlier runs left in target/fuzz. Needs clang.
+FUZZ_SECONDS ?= 600
+fuzz: library
+	@mkdir -p target/fuzz/corpus
+	clang -std=c99 -Wall -Wextra -Wpedantic -Werror -DSEEDS -I target/library c/fuzz.c target/library/libsigxume.a -o target/fuzz/seeds
+	target/fuzz/seeds target/fuzz/corpus < crates/pair/stdin
+	clang -std=c99 -Wall -Wextra -Wpedantic -Werror -g -O1 -fsanitize=fuzzer,address,undefined -fno-sanitize-recover=undefined \
+		-I target/library c/fuzz.c target/library/libsigxume.a -o target/fuzz/fuzz
+	echo "Fuzzing for $(FUZZ_SECONDS) seconds; the log is target/fuzz/log."
+	target/fuzz/fuzz -max_len=20000 -timeout=20 -max_total_time=$(FUZZ_SECONDS) -print_final_stats=1 \
+		-artifact_prefix=target/fuzz/ target/fuzz/corpus > target/fuzz/log 2>&1 || { tail -n 60 target/fuzz/log; exit 1; }
+	grep -E 'DONE|^stat::' target/fuzz/log
 
 # The quick loop: proves what has changed.
 check:

@@ -1,0 +1,263 @@
+/*
+ * Sigxume: compares two motif sequences by greedy string tiling (Wise, 1993).
+ *
+ * The work is done by a core written in Rattle and proved for every input: it answers what the definition of the tiling says, it
+ * touches nothing but what it is lent, and it ends. This header only says how to call it. Link with libsigxume.a, which is for
+ * x86-64 and needs nothing but the C library's memset. c/example.c is a whole program; a comparison is
+ *
+ *     static uint32_t workspace[SIGXUME_MAX_WORKSPACE_WORDS], tiles[SIGXUME_MAX_TILE_WORDS];
+ *     sigxume_compared answer = sigxume_compare_fast(
+ *         first, n, second, m, minimum, SIGXUME_MULTIPLIER, SIGXUME_BUCKETS, sigxume_start(minimum),
+ *         workspace, SIGXUME_MAX_WORKSPACE_WORDS, tiles, SIGXUME_MAX_TILE_WORDS);
+ *     if (answer.refusal == SIGXUME_ACCEPTED)
+ *         for (uint32_t i = 0; i < answer.tiles; i++)
+ *             use(sigxume_tile_at(tiles, i));
+ *
+ * A word is a uint32_t. Its top two bits are its kind.
+ *
+ *     kind  word     other bits
+ *     0     header   29 to 14 the fish's number, its id; 13 to 0 the count of words between header and trailer, 0 to 2,048
+ *     1     call     15 to 0 a motif code, 29 to 16 zero: SIGXUME_CALL(code)
+ *     2     no-call  zero: SIGXUME_NO_CALL
+ *     3     trailer  29 to 0 the sum, modulo 2^30, of the low 30 bits of the header and of every word of the sequence
+ *
+ * Two words match when both are calls with equal codes. A no-call matches nothing, another no-call included.
+ *
+ * A sequence is 0 to 2,048 words, each a call or the no-call. Positions count from 0. A record is a sequence as it is stored: a
+ * header, the sequence, a trailer. In a file each word is four bytes, lowest byte first, so on x86-64 a file's bytes can be read
+ * into words as they are, and written from them.
+ *
+ * A tile is a stretch of words of both sequences that match one by one. The tiling always lays the longest that there is on words
+ * not yet covered; of equally long ones the one that starts first in the shorter sequence, or in the first where both are as long,
+ * and then the one that starts first in the other. It ends when there is none of at least the minimum length.
+ *
+ * Rules that hold for every function:
+ *
+ * - A slice is a pointer and a length in words. The pointer must be aligned to four bytes and valid for so many words. Where the
+ *   length is 0 it is not looked at, so NULL will do.
+ * - A slice that is written (its pointer is not to const) must not overlap any other that is passed. What is only read may: a
+ *   sequence may be compared with itself.
+ * - Nothing else is asked. Any words, lengths and numbers may be passed; what cannot be done is refused.
+ * - An answer is a struct whose first number is the refusal's, 0 for none. After a refusal every other number is 0 and everything
+ *   lent is as it was. A refusal is given when its cause holds and none that is checked earlier, and at no other time.
+ * - Nothing is allocated, no state is kept and errno is not touched, so any thread may call at any time, with buffers of its own.
+ * - Every call ends. The fast engine takes about 21 KB of stack, everything else under 1 KB.
+ */
+#ifndef SIGXUME_H
+#define SIGXUME_H
+
+#include <stdbool.h>
+#include <stddef.h>
+#include <stdint.h>
+
+#ifdef __cplusplus
+extern "C" {
+#endif
+
+/* The most words of a sequence and of a record, and the most that is ever asked of a workspace and of a tile buffer: buffers of
+ * these sizes serve for everything. */
+#define SIGXUME_MAX_WORDS 2048
+#define SIGXUME_MAX_RECORD_WORDS 2050
+#define SIGXUME_MAX_WORKSPACE_WORDS 16384
+#define SIGXUME_MAX_TILE_WORDS 6144
+
+/* The greatest minimum and the greatest bucket count; the least is 1 for both. */
+#define SIGXUME_MAX_MINIMUM 256
+#define SIGXUME_MAX_BUCKETS 1024
+
+/* Settings of the fast engine that serve well, with sigxume_start below. The answer does not depend on them, only the time. */
+#define SIGXUME_MULTIPLIER 257
+#define SIGXUME_BUCKETS 1024
+
+/* The call of a code from 0 to 65,535, which is its low 16 bits, and the no-call; a constant code gives a constant. A greater code,
+ * below 2^30, gives a word that is refused. */
+#define SIGXUME_CALL(code) ((uint32_t)1 << 30 | (uint32_t)(code))
+#define SIGXUME_NO_CALL ((uint32_t)2 << 30)
+
+/* Why something is refused, and nothing is for another cause. Below, the names are without SIGXUME_REFUSED_. */
+enum sigxume_refusal {
+    SIGXUME_ACCEPTED = 0,
+    SIGXUME_REFUSED_TOO_LONG = 1,      /* a sequence has more than 2,048 words */
+    SIGXUME_REFUSED_UNSOUND = 2,       /* a word of a sequence is neither a call nor the no-call */
+    SIGXUME_REFUSED_MINIMUM = 3,       /* the minimum is not 1 to 256 */
+    SIGXUME_REFUSED_BUCKETS = 4,       /* the bucket count is not 1 to 1,024 */
+    SIGXUME_REFUSED_SEARCH_LENGTH = 5, /* the first search length is below the minimum or above 2,048; or, of the list of
+                                          hashes, the window length is not 1 to 2,048 */
+    SIGXUME_REFUSED_WORKSPACE = 6,     /* the workspace has fewer than sigxume_workspace_words */
+    SIGXUME_REFUSED_TILE_BUFFER = 7,   /* the tile buffer has fewer than sigxume_tile_words */
+    SIGXUME_REFUSED_CUT = 8,           /* the record ends before its trailer */
+    SIGXUME_REFUSED_HEADER = 9,        /* the first word is no header, or its count exceeds 2,048 */
+    SIGXUME_REFUSED_TRAILER = 10,      /* the trailer is not of kind 3 with the right sum */
+    SIGXUME_REFUSED_ROOM = 11          /* the buffer is shorter than what would be written */
+};
+
+/* The answer of reading: a refusal's number and zeros, or 0 and what was read. */
+typedef struct sigxume_read_answer {
+    uint32_t refusal;
+    uint32_t id;    /* the fish's number, 0 to 65,535 */
+    uint32_t count; /* the sequence has so many words, 0 to 2,048 */
+    uint32_t used;  /* the record has so many words, count + 2: the next one, where there is one, begins after them */
+} sigxume_read_answer;
+
+/* The answer of a call that counts what it wrote: a refusal's number and 0, or 0 and the count. */
+typedef struct sigxume_counted {
+    uint32_t refusal;
+    uint32_t count;
+} sigxume_counted;
+
+/* The answer of a comparison: a refusal's number and zeros, or 0 and what was laid. */
+typedef struct sigxume_compared {
+    uint32_t refusal;
+    uint32_t tiles;   /* the number of tiles; each is three words at the start of the tile buffer */
+    uint32_t covered; /* the sum of their lengths */
+    uint32_t score;   /* 2,000 * covered divided by the sum of both lengths, rounded down: 0 to 1,000; 0 for two empty sequences */
+} sigxume_compared;
+
+/* A tile, as sigxume_tile_at takes it from a tile buffer. First and second mean as passed, whichever is the longer. */
+typedef struct sigxume_tile {
+    uint32_t first;  /* where it starts in the first sequence */
+    uint32_t second; /* where it starts in the second */
+    uint32_t length; /* its words */
+} sigxume_tile;
+
+/*
+ * How large a buffer must be, in words. Any arguments may be given: a size that exceeds a size_t is SIZE_MAX. Take a heap buffer
+ * from calloc(size, sizeof(uint32_t)), which sees where the bytes would be too many.
+ */
+
+/* The words that a comparison of sequences of these lengths asks of its workspace: four for each word of both. */
+static inline size_t sigxume_workspace_words(size_t first, size_t second)
+{
+    size_t most = (size_t)-1;
+    size_t sum = first <= most - second ? first + second : most;
+    return sum <= most / 4 ? 4 * sum : most;
+}
+
+/* The words that it asks of its tile buffer: three for each tile that there can be. For minimum 0, which is refused, this is 0. */
+static inline size_t sigxume_tile_words(size_t first, size_t second, uint32_t minimum)
+{
+    size_t most = (size_t)-1;
+    size_t shorter = first < second ? first : second;
+    size_t tiles = minimum != 0 ? shorter / minimum : 0;
+    return tiles <= most / 3 ? 3 * tiles : most;
+}
+
+/* The words of a record whose sequence has so many: a header and a trailer more. */
+static inline size_t sigxume_record_words(size_t count)
+{
+    size_t most = (size_t)-1;
+    return count <= most - 2 ? count + 2 : most;
+}
+
+/* The positions of a sequence of so many words at which a window fits, so the words that sigxume_hash_list writes. For a window of
+ * 0 words, which is refused, this is 0. */
+static inline size_t sigxume_hash_words(size_t words, uint32_t window)
+{
+    return window != 0 && window <= words ? words - window + 1 : 0;
+}
+
+/* The first search length that serves at a minimum: 20, or the minimum if larger. */
+static inline uint32_t sigxume_start(uint32_t minimum)
+{
+    return minimum > 20 ? minimum : 20;
+}
+
+/* The tile of that index, from 0, in a tile buffer; the index must be below the answer's number of tiles. */
+static inline sigxume_tile sigxume_tile_at(const uint32_t *tiles, size_t index)
+{
+    sigxume_tile tile;
+    tile.first = tiles[3 * index];
+    tile.second = tiles[3 * index + 1];
+    tile.length = tiles[3 * index + 2];
+    return tile;
+}
+
+/* How much further on a tile lies in the second sequence: from -2,047 to 2,047. */
+static inline int32_t sigxume_shift(sigxume_tile tile)
+{
+    return (int32_t)tile.second - (int32_t)tile.first;
+}
+
+/* A refusal's cause in words. */
+static inline const char *sigxume_reason(uint32_t refusal)
+{
+    switch (refusal) {
+    case SIGXUME_ACCEPTED: return "nothing was refused";
+    case SIGXUME_REFUSED_TOO_LONG: return "a sequence has more than 2,048 words";
+    case SIGXUME_REFUSED_UNSOUND: return "a word is neither a call nor the no-call";
+    case SIGXUME_REFUSED_MINIMUM: return "the minimum is not 1 to 256";
+    case SIGXUME_REFUSED_BUCKETS: return "the bucket count is not 1 to 1,024";
+    case SIGXUME_REFUSED_SEARCH_LENGTH:
+        return "the first search length is below the minimum or above 2,048, or the window length is not 1 to 2,048";
+    case SIGXUME_REFUSED_WORKSPACE: return "the workspace is too short";
+    case SIGXUME_REFUSED_TILE_BUFFER: return "the tile buffer is too short";
+    case SIGXUME_REFUSED_CUT: return "the record ends before its trailer";
+    case SIGXUME_REFUSED_HEADER: return "the first word is no header, or its count exceeds 2,048";
+    case SIGXUME_REFUSED_TRAILER: return "the trailer is not of kind 3 with the right sum";
+    case SIGXUME_REFUSED_ROOM: return "the buffer is shorter than what would be written";
+    default: return "no refusal has this number";
+    }
+}
+
+/* Whether two words match: both are calls with equal codes. Any two words may be given; a call matches itself, and no
+ * other word matches anything. */
+bool sigxume_match(uint32_t a, uint32_t b);
+
+/* Whether each word is a call or the no-call. There may be any number of them; of none it is true. */
+bool sigxume_sound(const uint32_t *words, size_t words_len);
+
+/*
+ * Reads the record that src starts with, and copies its sequence to the start of buffer, which is long enough with
+ * SIGXUME_MAX_WORDS words. What follows the record is not looked at, and the rest of the buffer keeps its values.
+ *
+ * Refused, in this order: CUT (8) where src is empty, HEADER (9), CUT (8), UNSOUND (2), TRAILER (10), ROOM (11). The buffer is
+ * then as it was.
+ */
+sigxume_read_answer sigxume_read(const uint32_t *src, size_t src_len, uint32_t *buffer, size_t buffer_len);
+
+/*
+ * Writes the record of a fish's number and a sequence to the start of buffer, which must have sigxume_record_words, and answers
+ * how many words that were. The rest of the buffer keeps its values.
+ *
+ * Refused, in this order: TOO_LONG (1), UNSOUND (2), ROOM (11). The buffer is then as it was. Mind that C cuts a number that is
+ * passed as id to its low 16 bits and says nothing.
+ */
+sigxume_counted sigxume_write(
+    uint16_t id, const uint32_t *sequence, size_t sequence_len, uint32_t *buffer, size_t buffer_len);
+
+/*
+ * Fills the start of buffer, which must have sigxume_hash_words, with the hash of each window of so many words, and answers how
+ * many there are; none where the window is longer than the sequence. The rest of the buffer keeps its values. The hash of
+ * w0 .. w(s-1) is w0 * B^(s-1) + .. + w(s-1) modulo 2^32, over whole words, B being the multiplier and B^0 = 1 even for B = 0.
+ *
+ * Refused, in this order: TOO_LONG (1), UNSOUND (2), SEARCH_LENGTH (5), ROOM (11). The buffer is then as it was.
+ */
+sigxume_counted sigxume_hash_list(
+    const uint32_t *words, size_t words_len, uint32_t multiplier, uint32_t window, uint32_t *buffer, size_t buffer_len);
+
+/*
+ * Compares two sequences by the fast engine, Running Karp-Rabin greedy string tiling. The tiles, each of at least minimum words,
+ * go to the start of tiles in the order laid, so from the longest to the shortest; the other words of tiles keep their values. The
+ * workspace may hold anything, and all its workspace_len words are zero afterwards. The multiplier may be any number; start is
+ * the first search length.
+ *
+ * Refused, in this order: TOO_LONG (1), UNSOUND (2), MINIMUM (3), BUCKETS (4), SEARCH_LENGTH (5), WORKSPACE (6),
+ * TILE_BUFFER (7). Workspace and tiles are then as they were.
+ */
+sigxume_compared sigxume_compare_fast(
+    const uint32_t *first, size_t first_len, const uint32_t *second, size_t second_len, uint32_t minimum, uint32_t multiplier,
+    uint32_t buckets, uint32_t start, uint32_t *workspace, size_t workspace_len, uint32_t *tiles, size_t tiles_len);
+
+/*
+ * The same by the plain engine, which uses no hash and is slower but for short sequences. It is proved to give the same answer and
+ * the same tiles. Refused as there, without BUCKETS (4) and SEARCH_LENGTH (5).
+ */
+sigxume_compared sigxume_compare_plain(
+    const uint32_t *first, size_t first_len, const uint32_t *second, size_t second_len, uint32_t minimum, uint32_t *workspace,
+    size_t workspace_len, uint32_t *tiles, size_t tiles_len);
+
+#ifdef __cplusplus
+}
+#endif
+
+#endif
