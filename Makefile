@@ -25,11 +25,12 @@ library:
 	install -C -m 644 target/staticlib/libcapi.a target/library/libsigxume.a
 	install -C -m 644 c/sigxume.h target/library/sigxume.h
 
-# Builds the C example and runs it: it prints what the pair program prints. Where there is a C++ compiler it takes the header too.
+# Builds the C example and runs it: it must print what the pair program prints. Where there is a C++ compiler it takes the header too.
 example: library
 	@mkdir -p target/c
 	cc -std=c99 -Wall -Wextra -Wpedantic -Werror -O2 -I target/library c/example.c target/library/libsigxume.a -o target/c/example
-	target/c/example | cmp - crates/pair/stdout
+	target/c/example | tee target/c/listing
+	cmp target/c/listing crates/pair/stdout
 	if command -v c++ > /dev/null; then
 		c++ -Wall -Wextra -Wpedantic -Werror -I target/library -fsyntax-only -x c++ - <<< '#include "sigxume.h"'
 	fi
@@ -47,8 +48,7 @@ test:
 	trap 'rm -f "$$log"' EXIT
 	rt fmt --check
 	rt ci | tee "$$log"
-	$(MAKE) --no-print-directory tool
-	$(MAKE) --no-print-directory example
+	$(MAKE) --no-print-directory tool example
 	cargo test --quiet --package sigxume
 	cargo run --quiet --profile checked --bin tests
 	tail -n 1 "$$log"
