@@ -1,5 +1,5 @@
-//! Links the proved core: `libsigxume.a`, which `make library` writes to target/library at the top of
-//! the repository, or to be found in the folder that the variable SIGXUME_LIBRARY names.
+//! Links the proved core: `libsigxume.a`, which `make library` writes to target/library at the top
+//! of the repository, or to be found in the folder that the variable SIGXUME_LIBRARY names.
 
 use std::env;
 use std::path::PathBuf;

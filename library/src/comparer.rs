@@ -5,8 +5,8 @@ use crate::{
 };
 use std::ops::Deref;
 
-/// Compares pairs of sequences, with buffers of its own that grow as needed and serve from one comparison
-/// to the next. One for each thread is right.
+/// Compares pairs of sequences, with buffers of its own that grow as needed and serve from one
+/// comparison to the next. One for each thread is right.
 ///
 /// ```
 /// use sigxume::{Comparer, Symbol};
@@ -35,8 +35,8 @@ impl Comparer {
         Self::default()
     }
 
-    /// Compares two sequences by the fast engine with the settings that serve at this minimum. Refused, in
-    /// this order: [`TooLong`](Refusal::TooLong), [`Unsound`](Refusal::Unsound),
+    /// Compares two sequences by the fast engine with the settings that serve at this minimum.
+    /// Refused, in this order: [`TooLong`](Refusal::TooLong), [`Unsound`](Refusal::Unsound),
     /// [`Minimum`](Refusal::Minimum).
     pub fn compare(
         &mut self,

@@ -14,8 +14,8 @@ pub struct Settings {
 }
 
 impl Settings {
-    /// The settings that serve at a minimum: multiplier 257, 1,024 buckets, and first search length 20,
-    /// or the minimum if larger.
+    /// The settings that serve at a minimum: multiplier 257, 1,024 buckets, and first search length
+    /// 20, or the minimum if larger.
     pub const fn for_minimum(minimum: u32) -> Self {
         Self {
             multiplier: 257,
@@ -84,14 +84,14 @@ pub fn tiles(words: &[u32]) -> impl ExactSizeIterator<Item = Tile> + '_ {
     })
 }
 
-/// The words that a comparison of sequences of these lengths asks of its workspace: four for each word of
-/// both.
+/// The words that a comparison of sequences of these lengths asks of its workspace: four for each
+/// word of both.
 pub const fn workspace_words(first: usize, second: usize) -> usize {
     first.saturating_add(second).saturating_mul(4)
 }
 
-/// The words that a comparison of sequences of these lengths asks of its tile buffer: three for each tile
-/// that there can be. For minimum 0, which is refused, this is 0.
+/// The words that a comparison of sequences of these lengths asks of its tile buffer: three for
+/// each tile that there can be. For minimum 0, which is refused, this is 0.
 pub const fn tile_words(first: usize, second: usize, minimum: u32) -> usize {
     let shorter = if first < second { first } else { second };
     match shorter.checked_div(minimum as usize) {
@@ -100,9 +100,9 @@ pub const fn tile_words(first: usize, second: usize, minimum: u32) -> usize {
     }
 }
 
-/// Compares two sequences by the fast engine, Running Karp-Rabin greedy string tiling. The tiles, each
-/// of at least `minimum` words, go to the start of `tiles`, whose other words keep their values; the whole
-/// workspace is zero afterwards, whatever it held.
+/// Compares two sequences by the fast engine, Running Karp-Rabin greedy string tiling. The tiles,
+/// each of at least `minimum` words, go to the start of `tiles`, whose other words keep their
+/// values; the whole workspace is zero afterwards, whatever it held.
 ///
 /// Refused, in this order: [`TooLong`](Refusal::TooLong), [`Unsound`](Refusal::Unsound),
 /// [`Minimum`](Refusal::Minimum), [`Buckets`](Refusal::Buckets),
@@ -140,8 +140,8 @@ pub fn compare(
     ))
 }
 
-/// The same by the plain engine, which uses no hash and is slower but for short sequences. It is proved to give
-/// the same answer and the same tiles as [`compare`]. Refused as there, without
+/// The same by the plain engine, which uses no hash and is slower but for short sequences. It is
+/// proved to give the same answer and the same tiles as [`compare`]. Refused as there, without
 /// [`Buckets`](Refusal::Buckets) and [`SearchLength`](Refusal::SearchLength).
 ///
 /// ```

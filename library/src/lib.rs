@@ -1,11 +1,11 @@
 //! Compares two motif sequences by greedy string tiling (Wise, 1993). The work is done by a core
-//! written in Rattle and proved for every input: it answers what the definition of the tiling says, it
-//! touches nothing but what it is lent, and it ends. This crate only hands on to it.
+//! written in Rattle and proved for every input: it answers what the definition of the tiling says,
+//! it touches nothing but what it is lent, and it ends. This crate only hands on to it.
 //!
-//! A **word** has 32 bits: the call of a motif code, or the no-call, which matches nothing. [`Symbol`]
-//! makes words. A **sequence** is a slice of up to [`MAX_WORDS`] of them, and a **record** is a
-//! sequence with a fish's number, as it is stored. What cannot be done is refused, by a [`Refusal`] with its cause
-//! and its number, and nothing that was lent has then changed.
+//! A **word** has 32 bits: the call of a motif code, or the no-call, which matches nothing.
+//! [`Symbol`] makes words. A **sequence** is a slice of up to [`MAX_WORDS`] of them, and a
+//! **record** is a sequence with a fish's number, as it is stored. What cannot be done is refused,
+//! by a [`Refusal`] with its cause and its number, and nothing that was lent has then changed.
 //!
 //! ```
 //! use sigxume::{Comparer, Symbol};
@@ -28,8 +28,9 @@
 //! ```
 //!
 //! [`Comparer`] keeps buffers from one comparison to the next. Who has buffers already calls
-//! [`compare`], which allocates nothing; [`workspace_words`] and [`tile_words`] say how large they must be.
-//! No function keeps state, so any number of threads may call them, each with buffers of its own.
+//! [`compare`], which allocates nothing; [`workspace_words`] and [`tile_words`] say how large they
+//! must be. No function keeps state, so any number of threads may call them, each with buffers of
+//! its own.
 
 pub mod raw;
 

@@ -1,9 +1,11 @@
-//! The core's exported functions as they are: an answer is a struct of numbers, the first of which is
-//! the refusal's, 0 for none. The functions at the top of this crate say the same by a [`Result`].
+//! The core's exported functions as they are: an answer is a struct of numbers, the first of which
+//! is the refusal's, 0 for none. The functions at the top of this crate say the same by a
+//! [`Result`].
 //!
-//! This is the whole boundary: nothing else in this repository's Rust is a foreign function or unsafe.
-//! A slice is passed as a pointer and then a length in words. The core is proved to touch nothing else,
-//! whatever the words and the lengths are, so these functions are safe for all arguments.
+//! This is the whole boundary: nothing else in this repository's Rust is a foreign function or
+//! unsafe. A slice is passed as a pointer and then a length in words. The core is proved to touch
+//! nothing else, whatever the words and the lengths are, so these functions are safe for all
+//! arguments.
 
 use crate::Settings;
 

@@ -19,9 +19,9 @@ pub const fn record_words(count: usize) -> usize {
     count.saturating_add(2)
 }
 
-/// Reads the record that `src` starts with, and copies its sequence to the start of `buffer`, which is
-/// long enough with [`MAX_WORDS`] words. What follows the record is not looked at, and the rest of the
-/// buffer keeps its values.
+/// Reads the record that `src` starts with, and copies its sequence to the start of `buffer`, which
+/// is long enough with [`MAX_WORDS`] words. What follows the record is not looked at, and the rest
+/// of the buffer keeps its values.
 ///
 /// Refused, in this order: [`Cut`](Refusal::Cut) where `src` is empty, [`Header`](Refusal::Header),
 /// [`Cut`](Refusal::Cut), [`Unsound`](Refusal::Unsound), [`Trailer`](Refusal::Trailer),
@@ -81,8 +81,8 @@ pub struct Entry {
     pub sequence: Vec<u32>,
 }
 
-/// Reads records that follow one another until nothing is left. After a refusal there is no next one:
-/// where it would begin cannot be known.
+/// Reads records that follow one another until nothing is left. After a refusal there is no next
+/// one: where it would begin cannot be known.
 ///
 /// ```
 /// use sigxume::{records, Refusal};

@@ -25,8 +25,8 @@ pub enum Refusal {
     Minimum = 3,
     /// The bucket count is not 1 to 1,024.
     Buckets = 4,
-    /// The first search length is below the minimum or above 2,048; or, of the list of hashes, the window
-    /// length is not 1 to 2,048.
+    /// The first search length is below the minimum or above 2,048; or, of the list of hashes, the
+    /// window length is not 1 to 2,048.
     SearchLength = 5,
     /// The workspace has fewer than [`workspace_words`](crate::workspace_words) words.
     Workspace = 6,

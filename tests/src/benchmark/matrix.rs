@@ -1,10 +1,12 @@
-//! The tool's matrix beside the comparisons that it makes: what the files, the threads and the table cost.
+//! The tool's matrix beside the comparisons that it makes: what the files, the threads and the
+//! table cost.
 
 use super::{head, rounded, row, Promises};
 use crate::pairs::families;
 use crate::program::bytes;
 use crate::random::Random;
 use crate::reference::{record, MAX_WORDS};
+use crate::tool::TOOL;
 use sigxume::Comparer;
 use std::io::Write;
 use std::path::{Path, PathBuf};
@@ -12,8 +14,6 @@ use std::process::{Command, Stdio};
 use std::sync::atomic::{AtomicUsize, Ordering};
 use std::time::Instant;
 use std::{env, fs, io, process, thread};
-
-const TOOL: &str = concat!(env!("CARGO_MANIFEST_DIR"), "/../target/bin/sigxume");
 
 const SEED: u64 = 1;
 const FAMILIES: [usize; 2] = [8, 8];
@@ -23,8 +23,8 @@ const MINIMUM: u32 = 8;
 /// Each row is timed so often; the rows take turns.
 const RUNS: usize = 9;
 
-/// The matrix may take so much longer than its comparisons on the same number of threads, and must keep so
-/// much of every core busy.
+/// The matrix may take so much longer than its comparisons on the same number of threads, and must
+/// keep so much of every core busy.
 const MOST_COST: f64 = 1.15;
 const LEAST_CORES: f64 = 0.9;
 
@@ -146,9 +146,9 @@ pub fn compare_matrix(promises: &mut Promises) -> io::Result<()> {
     let fish = sequences.len();
     let pairs = fish * (fish - 1) / 2;
     println!(
-        "\nThe tool's matrix over {fish} records of {MAX_WORDS} words in {} families of {}, {CODES} codes \
-         (seed {SEED}), minimum {MINIMUM}: {pairs} comparisons; beside the same comparisons made in one \
-         process that has the sequences. Median of {RUNS} runs, in seconds; {cores} cores.\n",
+        "\nThe tool's matrix over {fish} records of {MAX_WORDS} words in {} families of {}, {CODES} \
+         codes (seed {SEED}), minimum {MINIMUM}: {pairs} comparisons; beside the same comparisons made \
+         in one process that has the sequences. Median of {RUNS} runs, in seconds; {cores} cores.\n",
         FAMILIES[0], FAMILIES[1]
     );
     let titles = [
@@ -174,7 +174,10 @@ pub fn compare_matrix(promises: &mut Promises) -> io::Result<()> {
             format!("{busy:.2}"),
         ]);
         promises.note(
-            format!("matrix, {threads} threads: matrix / comparisons alone at most {MOST_COST}, measured {cost:.2}"),
+            format!(
+                "matrix, threads {threads}: matrix / comparisons alone at most {MOST_COST}, \
+                 measured {cost:.2}"
+            ),
             cost <= MOST_COST,
         );
         let least = LEAST_CORES * threads as f64;

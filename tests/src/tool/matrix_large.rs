@@ -5,42 +5,19 @@ use super::fish::{records, text, Fish};
 use super::results::{Compared, Matrix};
 use super::Tool;
 use crate::group::Group;
-use crate::pairs::{calls, related};
+use crate::pairs::{calls, families};
 use crate::reference::{tiling, MAX_WORDS};
-use crate::samples::NO_CALL;
 
 const MINIMUM: u32 = 12;
-
-/// Families of fish: within one, each is made from the founder with words replaced and blocks moved.
-fn families(g: &mut Group) -> Vec<Fish> {
-    let random = &mut g.random;
-    let mut all = Vec::new();
-    for family in 0..8 {
-        let codes = random.pick(&[20, 40, 200]);
-        let [founder, _] = related(random, MAX_WORDS, codes);
-        for child in 0..8 {
-            let mut words = founder.clone();
-            for word in &mut words {
-                if random.one_in(25) {
-                    let other = calls(random, 1, codes)[0];
-                    *word = random.pick(&[NO_CALL, other]);
-                }
-            }
-            for _ in 0..child {
-                let (from, to) = (random.below(MAX_WORDS - 100), random.below(MAX_WORDS - 100));
-                let block: Vec<u32> = words.drain(from..from + 100).collect();
-                words.splice(to..to, block);
-            }
-            all.push(Fish::new((1_000 * family + child) as u16, &words));
-        }
-    }
-    all
-}
 
 /// Tables, lists and parts, by any number of threads, from a folder and from one file.
 pub fn large(g: &mut Group) {
     let tool = Tool::new(g);
-    let all = families(g);
+    let sequences = families(&mut g.random, [8, 8], MAX_WORDS, 40);
+    let all: Vec<Fish> = (0..)
+        .zip(&sequences)
+        .map(|(id, words)| Fish::new(id, words))
+        .collect();
     let matrix = Matrix::new(&all, MINIMUM);
     for (a, b) in [(0, 7), (3, 5), (8, 40), (63, 1)] {
         let literal = tiling(&all[a].words, &all[b].words, MINIMUM as usize);
