@@ -48,7 +48,7 @@ test:
 	trap 'rm -f "$$log"' EXIT
 	rt fmt --check
 	rt ci | tee "$$log"
-	$(MAKE) --no-print-directory tool example
+	make --no-print-directory tool example
 	cargo test --quiet --package sigxume
 	cargo run --quiet --profile checked --bin tests
 	tail -n 1 "$$log"
