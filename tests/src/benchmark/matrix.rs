@@ -183,7 +183,7 @@ pub fn compare_matrix(promises: &mut Promises) -> io::Result<()> {
         let least = LEAST_CORES * threads as f64;
         promises.note(
             format!(
-                "matrix, {threads} threads: cores busy at least {least:.1}, measured {busy:.2}"
+                "matrix, threads {threads}: cores busy at least {least:.1}, measured {busy:.2}"
             ),
             busy >= least,
         );
