@@ -37,7 +37,7 @@ impl Matrix<'_> {
     /// Compares the pairs and writes them.
     pub fn write(&self, output: &mut Output) -> Result<(), Failure> {
         let total = self.pairs.len();
-        let size = (total / self.threads / 16).clamp(1, MOST);
+        let size = (total / self.threads / 64).clamp(1, MOST);
         let threads = self.threads.min(total.div_ceil(size));
         let mut pairs = Pairs::from(self.table.fish.len(), self.pairs.start).take(total);
         let chunks = iter::repeat_with(|| Vec::from_iter(pairs.by_ref().take(size)));

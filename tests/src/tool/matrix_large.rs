@@ -1,4 +1,4 @@
-//! `matrix` on 64 records of 2,048 words: all 2,016 pairs.
+//! 64 records of 2,048 words: `matrix` on all 2,016 pairs, and the other subcommands on the same files.
 
 use super::expected::Expected;
 use super::fish::{records, text, Fish};
@@ -57,7 +57,37 @@ pub fn large(g: &mut Group) {
     }
     let args = ["matrix", "-m", &minimum, "all"];
     tool.expect_written(g, format_args!("64 fish"), &args, b"", table.as_bytes());
+    others(g, &tool, &all);
     many(g, &tool);
+}
+
+/// Encoded and decoded, and one pair of them listed and drawn.
+fn others(g: &mut Group, tool: &Tool, all: &[Fish]) {
+    let case = format_args!("64 fish");
+    let minimum = MINIMUM.to_string();
+    let encoded = Expected::prints(records(all));
+    tool.expect(g, case, &["encode", "all.txt"], b"", &encoded);
+    tool.expect(
+        g,
+        case,
+        &["decode", "all"],
+        b"",
+        &Expected::prints(text(all)),
+    );
+    let pair = [all[43].clone(), all[41].clone()];
+    let compared = Compared::new(&pair[0], &pair[1], MINIMUM);
+    let alone = tool.run(&["plot", "-m", &minimum, "-"], &text(&pair));
+    let drawn = alone.map(|ran| ran.stdout).unwrap_or_default();
+    for file in ["all", "all.txt"] {
+        for (args, printed) in [
+            (&["compare"][..], compared.listing().into_bytes()),
+            (&["compare", "--json"], compared.json().into_bytes()),
+            (&["plot"], drawn.clone()),
+        ] {
+            let args = [args, &["-m", &minimum, "--fish", "43,41", file]].concat();
+            tool.expect(g, case, &args, b"", &Expected::prints(printed));
+        }
+    }
 }
 
 /// Very many fish of few words: rows must come in order whichever thread is first.
