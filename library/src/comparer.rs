@@ -3,7 +3,6 @@
 use crate::{
     compare, tile_words, tiles, workspace_words, Comparison, Refusal, Settings, Tile, MAX_WORDS,
 };
-use std::ops::Deref;
 
 /// Compares pairs of sequences, with buffers of its own that grow as needed and serve from one
 /// comparison to the next. One for each thread is right.
@@ -13,7 +12,7 @@ use std::ops::Deref;
 ///
 /// let words = [1, 2, 3].map(|code| Symbol::Call(code).word());
 /// let mut comparer = Comparer::new();
-/// let scores = [0, 1, 2, 3].map(|n| comparer.compare(&words, &words[..n], 1).unwrap().score);
+/// let scores = [0, 1, 2, 3].map(|n| comparer.compare(&words, &words[..n], 1).unwrap().score());
 /// assert_eq!(scores, [0, 500, 800, 1_000]);
 /// ```
 #[derive(Clone, Debug, Default)]
@@ -23,10 +22,10 @@ pub struct Comparer {
 }
 
 /// A comparison's answer with its tiles, as long as the [`Comparer`] is not used again.
-#[derive(Clone, Copy, Debug, PartialEq, Eq)]
+#[derive(Clone, Copy, Debug)]
 pub struct Tiling<'a> {
     answer: Comparison,
-    words: &'a [u32],
+    buffer: &'a [u32],
 }
 
 impl Comparer {
@@ -35,7 +34,7 @@ impl Comparer {
         Self::default()
     }
 
-    /// Compares two sequences by the fast engine with the settings that serve at this minimum.
+    /// Compares two sequences by the fast engine with the settings that serve well at this minimum.
     /// Refused, in this order: [`TooLong`](Refusal::TooLong), [`Unsound`](Refusal::Unsound),
     /// [`Minimum`](Refusal::Minimum).
     pub fn compare(
@@ -50,23 +49,29 @@ impl Comparer {
         let buffer = part(&mut self.tiles, tile_words(n, m, minimum));
         let settings = Settings::for_minimum(minimum);
         let answer = compare(first, second, minimum, settings, workspace, buffer)?;
-        let words = &buffer[..3 * answer.tiles];
-        Ok(Tiling { answer, words })
+        Ok(Tiling { answer, buffer })
     }
 }
 
-impl Tiling<'_> {
+impl<'a> Tiling<'a> {
+    /// What the comparison answered.
+    pub fn answer(&self) -> Comparison {
+        self.answer
+    }
+
+    /// The sum of the tiles' lengths.
+    pub fn covered(&self) -> usize {
+        self.answer.covered
+    }
+
+    /// 2,000 × covered divided by the sum of both lengths, rounded down.
+    pub fn score(&self) -> u32 {
+        self.answer.score
+    }
+
     /// The tiles in the order laid, so from the longest to the shortest.
-    pub fn tiles(&self) -> impl ExactSizeIterator<Item = Tile> + '_ {
-        tiles(self.words)
-    }
-}
-
-impl Deref for Tiling<'_> {
-    type Target = Comparison;
-
-    fn deref(&self) -> &Comparison {
-        &self.answer
+    pub fn tiles(&self) -> impl ExactSizeIterator<Item = Tile> + 'a {
+        tiles(self.buffer, self.answer.tiles)
     }
 }
 

@@ -3,19 +3,19 @@
 use crate::{raw, Refusal};
 
 /// How the fast engine searches. The answer does not depend on it, only the time.
-#[derive(Clone, Copy, Debug, PartialEq, Eq)]
+#[derive(Clone, Copy, Debug, PartialEq, Eq, Hash)]
 pub struct Settings {
     /// Of the rolling hash; any number.
     pub multiplier: u32,
-    /// From 1 to 1,024.
+    /// From 1 to [`MAX_BUCKETS`](crate::MAX_BUCKETS).
     pub buckets: u32,
     /// The first search length, from the minimum to 2,048.
     pub start: u32,
 }
 
 impl Settings {
-    /// The settings that serve at a minimum: multiplier 257, 1,024 buckets, and first search length
-    /// 20, or the minimum if larger.
+    /// The settings that serve well at a minimum: multiplier 257, 1,024 buckets, and first search
+    /// length 20, or the minimum if larger.
     pub const fn for_minimum(minimum: u32) -> Self {
         Self {
             multiplier: 257,
@@ -26,7 +26,8 @@ impl Settings {
 }
 
 /// What a comparison answers.
-#[derive(Clone, Copy, Debug, PartialEq, Eq)]
+#[derive(Clone, Copy, Debug, PartialEq, Eq, Hash)]
+#[non_exhaustive]
 pub struct Comparison {
     /// The number of tiles; each is three words at the start of the tile buffer.
     pub tiles: usize,
@@ -48,7 +49,8 @@ impl Comparison {
 }
 
 /// A stretch of words that is the same in both sequences.
-#[derive(Clone, Copy, Debug, PartialEq, Eq)]
+#[derive(Clone, Copy, Debug, PartialEq, Eq, Hash)]
+#[non_exhaustive]
 pub struct Tile {
     /// Where it starts in the first sequence, counted from 0.
     pub first: usize,
@@ -59,22 +61,25 @@ pub struct Tile {
 }
 
 impl Tile {
-    /// How much further on it lies in the second sequence: from -2,047 to 2,047.
+    /// How much further on it lies in the second sequence: from -2,047 to 2,047, where it was laid
+    /// by a comparison.
     pub const fn shift(self) -> i32 {
-        self.second as i32 - self.first as i32
+        (self.second as i32).wrapping_sub(self.first as i32)
     }
 }
 
-/// The tiles in the words of a tile buffer, in the order laid: a tile is three words.
+/// The first so many tiles of a tile buffer, in the order laid: a tile is three words.
 ///
 /// ```
-/// let tiles = Vec::from_iter(sigxume::tiles(&[1, 7, 5, 6, 3, 1]));
+/// let buffer = [1, 7, 5, 6, 3, 1, 0, 0, 0];
+/// let tiles = Vec::from_iter(sigxume::tiles(&buffer, 2));
+/// assert_eq!(tiles.len(), 2);
 /// assert_eq!(tiles[0].length, 5);
 /// assert_eq!(tiles[1].shift(), -3);
 /// ```
-pub fn tiles(words: &[u32]) -> impl ExactSizeIterator<Item = Tile> + '_ {
-    let (tiles, _) = words.as_chunks();
-    tiles.iter().map(|&tile| {
+pub fn tiles(buffer: &[u32], count: usize) -> impl ExactSizeIterator<Item = Tile> + '_ {
+    let (tiles, _) = buffer.as_chunks();
+    tiles.iter().take(count).map(|&tile| {
         let [first, second, length] = tile.map(|word: u32| word as usize);
         Tile {
             first,
@@ -110,7 +115,7 @@ pub const fn tile_words(first: usize, second: usize, minimum: u32) -> usize {
 /// [`TileBuffer`](Refusal::TileBuffer). Both buffers are then as they were.
 ///
 /// ```
-/// use sigxume::{compare, tile_words, tiles, workspace_words, Settings, Symbol, Tile};
+/// use sigxume::{compare, tile_words, tiles, workspace_words, Settings, Symbol};
 ///
 /// let minimum = 2;
 /// let first = [1, 2, 3, 4, 5].map(|code| Symbol::Call(code).word());
@@ -122,9 +127,8 @@ pub const fn tile_words(first: usize, second: usize, minimum: u32) -> usize {
 /// let answer = compare(&first, &second, minimum, settings, &mut workspace, &mut buffer)?;
 /// assert_eq!((answer.tiles, answer.covered, answer.score), (2, 5, 1_000));
 ///
-/// let laid = Vec::from_iter(tiles(&buffer[..3 * answer.tiles]));
-/// assert_eq!(laid[0], Tile { first: 2, second: 0, length: 3 });
-/// assert_eq!(laid[1], Tile { first: 0, second: 3, length: 2 });
+/// let laid = tiles(&buffer, answer.tiles).map(|tile| (tile.first, tile.second, tile.length));
+/// assert_eq!(Vec::from_iter(laid), [(2, 0, 3), (0, 3, 2)]);
 /// # Ok::<(), sigxume::Refusal>(())
 /// ```
 pub fn compare(

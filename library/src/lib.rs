@@ -17,8 +17,8 @@
 //! // Tiles of at least one word.
 //! let mut comparer = Comparer::new();
 //! let tiling = comparer.compare(&first, &second, 1)?;
-//! assert_eq!(tiling.covered, 7);
-//! assert_eq!(tiling.score, 736);
+//! assert_eq!(tiling.covered(), 7);
+//! assert_eq!(tiling.score(), 736);
 //!
 //! // The longest tile is the first: five words, at 1 in the first sequence and at 7 in the second.
 //! let tile = tiling.tiles().next().unwrap();
@@ -32,6 +32,10 @@
 //! must be. No function keeps state, so any number of threads may call them, each with buffers of
 //! its own.
 
+#![deny(unsafe_code)]
+#![warn(missing_docs)]
+
+#[allow(unsafe_code)]
 pub mod raw;
 
 mod bytes;
@@ -54,6 +58,12 @@ pub use window::{hash_list, hash_words};
 
 /// The most words that a sequence may have.
 pub const MAX_WORDS: usize = 2_048;
+
+/// The greatest minimum; the least is 1.
+pub const MAX_MINIMUM: u32 = 256;
+
+/// The greatest bucket count; the least is 1.
+pub const MAX_BUCKETS: u32 = 1_024;
 
 #[cfg(doctest)]
 #[doc = include_str!("../../docs/BUILDING-ON-IT.md")]

@@ -13,9 +13,13 @@ use crate::Settings;
 #[repr(C)]
 #[derive(Clone, Copy, Debug, PartialEq, Eq)]
 pub struct ReadAnswer {
+    /// The refusal's number, 0 for none.
     pub refusal: u32,
+    /// The fish's number.
     pub id: u32,
+    /// The words of the sequence.
     pub count: u32,
+    /// The words of the record.
     pub used: u32,
 }
 
@@ -23,7 +27,9 @@ pub struct ReadAnswer {
 #[repr(C)]
 #[derive(Clone, Copy, Debug, PartialEq, Eq)]
 pub struct Counted {
+    /// The refusal's number, 0 for none.
     pub refusal: u32,
+    /// What was written or hashed, in words.
     pub count: u32,
 }
 
@@ -31,9 +37,13 @@ pub struct Counted {
 #[repr(C)]
 #[derive(Clone, Copy, Debug, PartialEq, Eq)]
 pub struct Compared {
+    /// The refusal's number, 0 for none.
     pub refusal: u32,
+    /// The number of tiles.
     pub tiles: u32,
+    /// The sum of their lengths.
     pub covered: u32,
+    /// From 0 to 1,000.
     pub score: u32,
 }
 

@@ -4,7 +4,8 @@ use crate::{raw, Refusal, MAX_WORDS};
 use std::iter::FusedIterator;
 
 /// What was read of a record.
-#[derive(Clone, Copy, Debug, PartialEq, Eq)]
+#[derive(Clone, Copy, Debug, PartialEq, Eq, Hash)]
+#[non_exhaustive]
 pub struct Record {
     /// The fish's number.
     pub id: u16,
@@ -72,12 +73,14 @@ pub fn write(id: u16, sequence: &[u32], buffer: &mut [u32]) -> Result<usize, Ref
 }
 
 /// A record of several in a row.
-#[derive(Clone, Debug, PartialEq, Eq)]
+#[derive(Clone, Debug, PartialEq, Eq, Hash)]
+#[non_exhaustive]
 pub struct Entry {
     /// The word at which it begins, counted from 0.
     pub at: usize,
     /// The fish's number.
     pub id: u16,
+    /// Its words.
     pub sequence: Vec<u32>,
 }
 

@@ -3,8 +3,8 @@
 use std::error::Error;
 use std::fmt;
 
-/// Why the core refused, with the paper's number. Nothing else is ever refused, and after a refusal
-/// every buffer holds what it held.
+/// Why the core refused, with the number in the README's table. Nothing else is ever refused, and
+/// after a refusal every buffer holds what it held.
 ///
 /// ```
 /// use sigxume::{Comparer, Refusal};
@@ -44,7 +44,7 @@ pub enum Refusal {
 
 impl Refusal {
     /// All of them, in the order of their numbers.
-    pub const ALL: [Self; 11] = [
+    pub const ALL: &'static [Self] = &[
         Self::TooLong,
         Self::Unsound,
         Self::Minimum,
@@ -58,9 +58,22 @@ impl Refusal {
         Self::Room,
     ];
 
-    /// The paper's number, from 1.
+    /// The number, from 1.
     pub const fn number(self) -> u32 {
         self as u32
+    }
+
+    /// The refusal with a number, as [`raw`](crate::raw) answers it.
+    ///
+    /// ```
+    /// use sigxume::Refusal;
+    ///
+    /// assert_eq!(Refusal::from_number(8), Some(Refusal::Cut));
+    /// assert_eq!(Refusal::from_number(0), None);
+    /// ```
+    pub fn from_number(number: u32) -> Option<Self> {
+        let found = Self::ALL.iter().find(|refusal| refusal.number() == number);
+        found.copied()
     }
 
     /// The cause in words.
@@ -85,12 +98,10 @@ impl Refusal {
 
     /// An answer's first number as a result: 0 is none.
     pub(crate) fn check(number: u32) -> Result<(), Self> {
-        match number.checked_sub(1) {
-            None => Ok(()),
-            Some(at) => {
-                let refusal = usize::try_from(at).ok().and_then(|at| Self::ALL.get(at));
-                Err(*refusal.expect("the core's contracts give these numbers and no other"))
-            }
+        match number {
+            0 => Ok(()),
+            number => Err(Self::from_number(number)
+                .expect("the core's contracts give these numbers and no other")),
         }
     }
 }

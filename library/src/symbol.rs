@@ -41,6 +41,14 @@ impl Symbol {
     }
 }
 
+impl TryFrom<u32> for Symbol {
+    type Error = Refusal;
+
+    fn try_from(word: u32) -> Result<Self, Refusal> {
+        Self::from_word(word)
+    }
+}
+
 impl From<Symbol> for u32 {
     fn from(symbol: Symbol) -> Self {
         symbol.word()

@@ -2,7 +2,7 @@
 
 use crate::{raw, Refusal};
 
-/// The places of a sequence of so many words at which a window fits, so the words that
+/// The positions of a sequence of so many words at which a window fits, so the words that
 /// [`hash_list`] writes. For a window of 0 words, which is refused, this is 0.
 pub const fn hash_words(words: usize, window: u32) -> usize {
     match words.checked_sub(window as usize) {

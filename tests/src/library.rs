@@ -4,12 +4,12 @@ use crate::engine::Engine;
 use crate::group::Group;
 use crate::pairs::any_pair;
 use crate::random::Random;
-use crate::reference::{self, record, tiling, MAX_WORDS};
+use crate::reference::{self, record, tiling, MAX_WORDS, ROOM};
 use crate::samples::{any_length, call, faulty, ids, sequence, sound_word, unsound_word, NO_CALL};
 use sigxume::{
     bytes_of_words, compare, compare_plain, hash_list, hash_words, read, record_words, records,
-    tile_words, tiles, words_match, words_of_bytes, workspace_words, write, Comparer, Comparison,
-    Entry, Refusal, Settings, Symbol, Tile,
+    tile_words, tiles, words_match, words_of_bytes, workspace_words, write, Comparer, Refusal,
+    Settings, Symbol, Tile,
 };
 
 /// A result with the refusal's number in its place.
@@ -35,13 +35,23 @@ fn lent(random: &mut Random, needed: usize) -> Vec<u32> {
 
 /// Every refusal has its number and says it, with words of its own.
 pub fn refusals(g: &mut Group) {
-    let table = Refusal::ALL.map(|refusal| (refusal.number(), refusal.to_string()));
+    let table = Refusal::ALL
+        .iter()
+        .map(|refusal| (refusal.number(), refusal.to_string()));
+    let table = Vec::from_iter(table);
+    g.equal(format_args!("all"), table.len(), ROOM as usize);
     for (at, (number, text)) in table.iter().enumerate() {
         let case = format_args!("refusal {number}, {text}");
         g.equal(case, *number as usize, at + 1);
         g.equal(case, text.ends_with(&format!(" (refusal {number})")), true);
         let others = table.iter().filter(|(_, other)| other == text).count();
         g.equal(case, others, 1);
+        let back = Refusal::from_number(*number);
+        g.equal(case, back, Some(Refusal::ALL[at]));
+    }
+    for number in [0, ROOM + 1, u32::MAX] {
+        let back = Refusal::from_number(number);
+        g.equal(format_args!("no refusal {number}"), back, None);
     }
 }
 
@@ -129,18 +139,15 @@ pub fn rows(g: &mut Group) {
             let mut sequence = vec![0; MAX_WORDS];
             let answer = reference::read(rest, &mut sequence);
             sequence.truncate(answer.count as usize);
-            let entry = Entry {
-                at: words.len() - rest.len(),
-                id: answer.id as u16,
-                sequence,
-            };
+            let entry = (words.len() - rest.len(), answer.id as u16, sequence);
             due.push(expected(answer.refusal, entry));
             rest = match answer.refusal {
                 0 => &rest[answer.used as usize..],
                 _ => &[],
             };
         }
-        let result = Vec::from_iter(records(&words).map(numbered));
+        let result = records(&words).map(|entry| entry.map(|it| (it.at, it.id, it.sequence)));
+        let result = Vec::from_iter(result.map(numbered));
         g.equal(format_args!("row {number}"), result, due);
         let (back, rest) = (words_of_bytes(&bytes_of_words(&words)).0, &[0u8; 3]);
         g.equal(format_args!("bytes of row {number}"), &back, &words);
@@ -182,12 +189,9 @@ pub fn comparisons(g: &mut Group) {
                     &mut laid,
                 ),
             };
-            let due_result = Comparison {
-                tiles: answer.tiles as usize,
-                covered: answer.covered as usize,
-                score: answer.score,
-            };
-            g.equal(case, numbered(result), expected(answer.refusal, due_result));
+            let result = result.map(|it| [it.tiles as u32, it.covered as u32, it.score]);
+            let answered = [answer.tiles, answer.covered, answer.score];
+            g.equal(case, numbered(result), expected(answer.refusal, answered));
             g.equal(case, [workspace, laid], [left, due]);
         }
     }
@@ -210,21 +214,18 @@ pub fn comparer(g: &mut Group) {
         let pair = [&first[..], &second[..]];
         let listed = || tiling(&first, &second, minimum as usize);
         let answer = reference::compare(engine, pair, minimum, listed, &mut workspace, &mut left);
-        let laid = Vec::from_iter(tiles(&left[..3 * answer.tiles as usize]));
+        let laid = Vec::from_iter(tiles(&left, answer.tiles as usize));
         let due = (laid, answer.covered as usize, answer.score);
         let result = comparer.compare(&first, &second, minimum);
-        let result = result.map(|it| (Vec::from_iter(it.tiles()), it.covered, it.score));
+        let result = result.map(|it| (Vec::from_iter(it.tiles()), it.covered(), it.score()));
         let case = format_args!("pair {number}, minimum {minimum}");
         g.equal(case, numbered(result), expected(answer.refusal, due));
     }
     let ends = [(0, 2_047, 2_047), (2_047, 0, -2_047), (9, 9, 0)];
     for (first, second, shift) in ends {
-        let tile = Tile {
-            first,
-            second,
-            length: 1,
-        };
-        g.equal(format_args!("shift of {tile:?}"), tile.shift(), shift);
+        let found = tiles(&[first, second, 1], 1).next().map(Tile::shift);
+        let case = format_args!("shift of {first} and {second}");
+        g.equal(case, found, Some(shift));
     }
 }
 

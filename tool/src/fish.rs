@@ -45,10 +45,12 @@ fn numbered<const N: usize>(fish: &[Fish], id: u16) -> Result<[&Fish; N], Failur
     let found = Vec::from_iter(fish.iter().filter(|fish| fish.id == id));
     let times = match found.len() {
         0 => return message(format!("there is no fish {id}")),
-        1 => "1 time".into(),
+        1 => "once".into(),
         count => format!("{count} times"),
     };
-    <[&Fish; N]>::try_from(found).or_else(|_| message(format!("fish {id} is there {times}")))
+    let wanted = if N == 1 { "one is" } else { "two are" };
+    <[&Fish; N]>::try_from(found)
+        .or_else(|_| message(format!("fish {id} is there {times}: {wanted} wanted")))
 }
 
 fn message<T>(message: String) -> Result<T, Failure> {

@@ -40,7 +40,8 @@ Operands
     };
     (output) => {
         "  -o, --output FILE   write to FILE and not to standard output; if something
-                      goes wrong, FILE stays as it was\n"
+                      goes wrong, FILE stays as it was; it must not be a file
+                      that is read\n"
     };
     (help) => {
         "  -h, --help          this text\n"
@@ -50,7 +51,7 @@ Operands
 Exit status
   0  all is well
   1  input was refused or could not be read, or output could not be written;
-     standard error says why, and nothing is written
+     standard error says why, and nothing is written, but by --keep-going
   2  the command line is wrong
 "
     };
@@ -182,6 +183,11 @@ The listing
   COVERED 7 OF 7 12  the tiles cover 7 words, of 7 and of 12
   SCORE 736          2000 times 7, divided by 7 plus 12: from 0 to 1000
 
+JSON
+  One line. fish, lengths: of the first and the second; minimum, covered,
+  score; tiles: for each its start in first and in second, its length and its
+  shift, in the order of the listing.
+
 ",
     shared!(status),
     "
@@ -194,7 +200,7 @@ Examples
 pub const PLOT: &str = concat!(
     "\
 Compares two fish: draws the stretches that they share, as an SVG picture,
-which every web browser shows.
+which a web browser shows.
 
 Usage: sigxume plot -m N [--fish A,B] [-o FILE] FILE [FILE]
 
@@ -227,7 +233,7 @@ Examples
 
 pub const MATRIX: &str = concat!(
     "\
-Compares every two of many fish: a table of scores, as CSV, which every
+Compares every two of many fish: a table of scores, as CSV, which a
 spreadsheet opens.
 
 Usage: sigxume matrix -m N [OPTION...] PATH...
@@ -235,7 +241,8 @@ Usage: sigxume matrix -m N [OPTION...] PATH...
 Operands
   Files of text or records; the tool sees which ('sigxume encode --help' tells
   of both). - is standard input. Of a folder all files are taken, in the order
-  of their names, but not those whose names begin with a dot.
+  of their names, but not those whose names begin with a dot; a folder in it
+  is an error.
 
 Options
   -m, --minimum N     the least words of a tile; it must be given
@@ -261,13 +268,13 @@ The table
 
   With --pairs, the row and the column are counted from 1:
 
-    row,column,first,second,tiles,covered,score
+    row,column,first_fish,second_fish,tiles,covered,score
     1,2,12,13,3,7,736
 
 With --keep-going
   Of a file of text only the bad lines are left out; of a file of records the
   bad one and all after it; a file that cannot be read, whole. The rest is
-  compared and written, and the exit status is 1.
+  compared and written, and the exit status is 1 all the same.
 
 ",
     shared!(status),

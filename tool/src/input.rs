@@ -116,6 +116,21 @@ impl Reader {
     }
 }
 
+/// A file that is read must not be written over: the fish in it would be lost.
+pub fn spare(operands: &[OsString], output: Option<&Path>) -> Result<(), Failure> {
+    let Some((output, Ok(to))) = output.map(|output| (output, fs::canonicalize(output))) else {
+        return Ok(());
+    };
+    let folder = to.parent().filter(|_| !hidden(&to));
+    let named = operands.iter().filter(|operand| *operand != "-");
+    let mut read = named.filter_map(|operand| fs::canonicalize(operand).ok());
+    if to.is_file() && read.any(|from| from == to || Some(&*from) == folder) {
+        let message = format!("-o names a file that is read: {}", output.display());
+        return Err(Failure::Usage(message));
+    }
+    Ok(())
+}
+
 /// Text is valid UTF-8 without control characters other than tabs and line ends. A file of whole records
 /// never is: its last byte, a trailer's highest, is C0 to FF, which in UTF-8 something must follow.
 fn is_text(bytes: &[u8]) -> bool {
@@ -133,11 +148,17 @@ fn bytes_of(operand: &OsStr) -> io::Result<Vec<u8>> {
 }
 
 /// The files of a folder, but not those whose names begin with a dot.
+/// Whether a file's name begins with a dot.
+fn hidden(path: &Path) -> bool {
+    let name = path.file_name().unwrap_or_default();
+    name.as_encoded_bytes().starts_with(b".")
+}
+
 fn files_of(folder: &Path) -> io::Result<Vec<OsString>> {
     let mut files = Vec::new();
     for file in fs::read_dir(folder)? {
         let file = file?;
-        if !file.file_name().as_encoded_bytes().starts_with(b".") {
+        if !hidden(&file.path()) {
             files.push(file.path().into_os_string());
         }
     }

@@ -7,7 +7,9 @@ use sigxume::Tiling;
 pub fn listing([first, second]: [&Fish; 2], minimum: u32, tiling: Tiling) -> String {
     let mut text = format!(
         "FISH {} {}\nMINIMUM {minimum}\nTILES {}\n",
-        first.id, second.id, tiling.tiles
+        first.id,
+        second.id,
+        tiling.tiles().len()
     );
     for tile in tiling.tiles() {
         text += &format!(
@@ -20,10 +22,10 @@ pub fn listing([first, second]: [&Fish; 2], minimum: u32, tiling: Tiling) -> Str
     }
     text += &format!(
         "COVERED {} OF {} {}\nSCORE {}\n",
-        tiling.covered,
+        tiling.covered(),
         first.sequence.len(),
         second.sequence.len(),
-        tiling.score
+        tiling.score()
     );
     text
 }
@@ -46,7 +48,7 @@ pub fn json([first, second]: [&Fish; 2], minimum: u32, tiling: Tiling) -> String
         first.sequence.len(),
         second.sequence.len(),
         tiles.join(","),
-        tiling.covered,
-        tiling.score
+        tiling.covered(),
+        tiling.score()
     ) + "\n"
 }

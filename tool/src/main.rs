@@ -1,5 +1,7 @@
 //! `sigxume`, the command-line tool: thin, it decides nothing that the core decides.
 
+#![forbid(unsafe_code)]
+
 mod axis;
 mod chain;
 mod commands;
@@ -112,6 +114,7 @@ impl Subcommand {
         if parsed.help {
             return print(self.help);
         }
+        input::spare(&parsed.operands, parsed.output.as_deref())?;
         (self.run)(parsed)
     }
 }

@@ -127,7 +127,7 @@ impl Matrix<'_> {
         for &(row, column) in pairs {
             let [first, second] = [row, column].map(|at| &self.table.fish[at].sequence);
             let tiling = comparer.compare(first, second, self.minimum)?;
-            self.table.pair(&mut text, row, column, &tiling);
+            self.table.pair(&mut text, row, column, &tiling.answer());
         }
         Ok(text)
     }

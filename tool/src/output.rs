@@ -1,4 +1,4 @@
-//! Where the output goes: to standard output, or to a file that is there whole or not at all.
+//! Where the output goes: to standard output, or to a file that is there whole or as it was.
 
 use crate::failure::Failure;
 use std::fs::{self, File};
@@ -6,7 +6,7 @@ use std::io::{self, BufWriter, ErrorKind, Write};
 use std::path::{Path, PathBuf};
 use std::process;
 
-/// An output that is being written. A file is there only after [`finish`](Output::finish).
+/// An output that is being written. A file changes only by [`finish`](Output::finish).
 pub struct Output {
     name: String,
     writer: Box<dyn Write>,
@@ -15,6 +15,7 @@ pub struct Output {
 
 /// A file under another name that takes its place when all is written.
 struct Temporary {
+    file: File,
     from: PathBuf,
     to: PathBuf,
 }
@@ -55,8 +56,9 @@ impl Output {
     /// All is written: the file takes its place.
     pub fn finish(mut self) -> Result<(), Failure> {
         let mut finished = self.writer.flush();
-        if let (Ok(()), Some(Temporary { from, to })) = (&finished, &self.temporary) {
-            finished = fs::rename(from, to);
+        if let (Ok(()), Some(Temporary { file, from, to })) = (&finished, &self.temporary) {
+            // On the disk first, so that a failure of the machine leaves no part of a file under its name.
+            finished = file.sync_all().and_then(|()| fs::rename(from, to));
         }
         finished.map_err(|error| unwritten(&self.name, &error))
     }
@@ -85,7 +87,11 @@ fn open_file(path: &Path) -> io::Result<(File, Option<Temporary>)> {
         return Ok((File::options().write(true).open(&to)?, None));
     }
     let (file, from) = create_beside(&to)?;
-    let temporary = Temporary { from, to };
+    let temporary = Temporary {
+        file: file.try_clone()?,
+        from,
+        to,
+    };
     if let Some(old) = old {
         file.set_permissions(old.permissions())?;
     }

@@ -50,12 +50,12 @@ pub fn plot(fish: [&Fish; 2], minimum: u32, tiling: Tiling) -> String {
         "{} and {}, minimum {minimum}, covered {}, score {}",
         across.words,
         counted(down.words, "word"),
-        tiling.covered,
-        tiling.score
+        tiling.covered(),
+        tiling.score()
     );
     let keys = [
         format!("{} in order", counted(in_order, "tile")),
-        format!("{} moved", counted(tiling.tiles - in_order, "tile")),
+        format!("{} moved", counted(tiles.len() - in_order, "tile")),
     ];
     [
         opening(&axes, &heading, &format!("{facts}; {}", keys.join(", "))),

@@ -16,7 +16,7 @@ impl Table<'_> {
     /// What stands above the first pair.
     pub fn head(&self) -> String {
         if self.lines {
-            return "row,column,first,second,tiles,covered,score\n".into();
+            return "row,column,first_fish,second_fish,tiles,covered,score\n".into();
         }
         let mut text = String::from("fish");
         for fish in self.fish {
@@ -31,6 +31,7 @@ impl Table<'_> {
             tiles,
             covered,
             score,
+            ..
         } = answer;
         if self.lines {
             let [first, second] = [row, column].map(|at| self.fish[at].id);

@@ -53,7 +53,7 @@ const TABLE: [Row; 9] = [
     Row {
         long: "minimum",
         short: Some(b'm'),
-        takes: Value("a number", |arguments, value| {
+        takes: Value("a number from 1 to 256", |arguments, value| {
             arguments.minimum = number(value.to_str()?)?;
             Some(())
         }),
@@ -62,7 +62,8 @@ const TABLE: [Row; 9] = [
         long: "output",
         short: Some(b'o'),
         takes: Value("the name of a file", |arguments, value| {
-            arguments.output = Some(PathBuf::from(value));
+            // As an operand - is standard input, so here it is standard output.
+            arguments.output = (value != "-").then(|| PathBuf::from(value));
             (!value.is_empty()).then_some(())
         }),
     },

@@ -48,7 +48,7 @@ fn compare_all(sequences: &[Vec<u32>], threads: usize) -> (Vec<u32>, f64) {
             let mut scores = Vec::new();
             while let Some(&(i, j)) = pairs.get(next.fetch_add(1, Ordering::Relaxed)) {
                 let tiling = comparer.compare(&sequences[i], &sequences[j], MINIMUM);
-                scores.push(((i, j), tiling.expect("an accepted pair").score));
+                scores.push(((i, j), tiling.expect("an accepted pair").score()));
             }
             scores
         };

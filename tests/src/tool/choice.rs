@@ -26,7 +26,7 @@ pub fn chosen(g: &mut Group, tool: &Tool) {
     let is = |line: &str| Expected::fails(Line::Is(format!("sigxume: {line}")));
     let listing =
         |a: usize, b: usize| Expected::prints(Compared::new(&all[a], &all[b], 1).listing());
-    let mut rows = vec![
+    let rows = [
         ("13,65535", listing(1, 4)),
         ("65535,13", listing(4, 1)),
         ("7,13", listing(3, 1)),
@@ -35,11 +35,10 @@ pub fn chosen(g: &mut Group, tool: &Tool) {
         ("99,13", is("there is no fish 99")),
         ("13,0", is("there is no fish 0")),
         ("99,99", is("there is no fish 99")),
-        ("12,13", is("fish 12 is there 2 times")),
-        ("13,12", is("fish 12 is there 2 times")),
+        ("12,13", is("fish 12 is there 2 times: one is wanted")),
+        ("13,12", is("fish 12 is there 2 times: one is wanted")),
+        ("13,13", is("fish 13 is there once: two are wanted")),
     ];
-    let once = Line::Begins("sigxume: fish 13 is there ".into());
-    rows.push(("13,13", Expected::fails(once)));
     for source in sources {
         for (names, expected) in &rows {
             for option in [&["--fish", names][..], &[&format!("--fish={names}")]] {
@@ -58,7 +57,7 @@ pub fn chosen(g: &mut Group, tool: &Tool) {
     }
     let case = format_args!("three times the same");
     let three = text(&[all[0].clone(), all[0].clone(), all[0].clone()]);
-    let expected = is("fish 12 is there 3 times");
+    let expected = is("fish 12 is there 3 times: two are wanted");
     let args = ["compare", "--fish", "12,12", "-m", "1", "-"];
     tool.expect(g, case, &args, &three, &expected);
     let expected = is("there are 3 fish: name two of them by --fish A,B");

@@ -138,7 +138,7 @@ fn example(g: &mut Group, tool: &Tool) {
     let args = ["matrix", "-m", "1", "-"];
     tool.expect(g, case, &args, &lines, &Expected::prints(table));
     let list =
-        "row,column,first,second,tiles,covered,score\n1,2,12,13,3,7,736\n1,3,12,14,1,2,444\n\
+        "row,column,first_fish,second_fish,tiles,covered,score\n1,2,12,13,3,7,736\n1,3,12,14,1,2,444\n\
                 1,4,12,15,0,0,0\n2,3,13,14,1,2,285\n2,4,13,15,0,0,0\n3,4,14,15,0,0,0\n";
     let args = ["matrix", "-m", "1", "-", "--pairs"];
     tool.expect(g, case, &args, &lines, &Expected::prints(list));
@@ -150,7 +150,7 @@ fn example(g: &mut Group, tool: &Tool) {
         };
         tool.expect(g, case, &args, input, &Expected::prints(table));
         let args = ["matrix", "-m", "1", "--pairs", "-"];
-        let list = "row,column,first,second,tiles,covered,score\n";
+        let list = "row,column,first_fish,second_fish,tiles,covered,score\n";
         tool.expect(g, case, &args, input, &Expected::prints(list));
     }
 }

@@ -1,4 +1,4 @@
-//! Output that cannot be written.
+//! Output that cannot be written, or must not be.
 
 use super::expected::{Expected, Line};
 use super::fish::{fish, records, text};
@@ -63,4 +63,63 @@ pub fn output(g: &mut Group) {
             g.equal(format_args!("{args:?}: files"), left, expected);
         }
     }
+    over_input(g, &tool);
+}
+
+/// A file that is read is not written over, however it is named.
+fn over_input(g: &mut Group, tool: &Tool) {
+    let fish = tool.get("fish").expect("a file");
+    tool.put("folder/fish", &fish);
+    tool.remove("folder/file");
+    let (here, there) = (tool.folder().join("fish"), tool.folder().join("link"));
+    std::os::unix::fs::symlink(&here, &there).expect("a link can be made");
+    let whole = lossy(here.as_os_str().as_encoded_bytes());
+    for args in COMMANDS {
+        let read = args[args.len() - 1];
+        for name in [
+            "fish",
+            "fish.txt",
+            "./fish",
+            "folder/../fish.txt",
+            "link",
+            &whole,
+        ] {
+            if name.ends_with(read) || (read == "fish" && name == "link") {
+                refused(g, tool, &[args, &["-o", name]].concat(), name);
+            }
+        }
+    }
+    let matrix = ["matrix", "-m", "1", "folder", "-o", "folder/fish"];
+    refused(g, tool, &matrix, "folder/fish");
+    let unchanged = [tool.get("fish"), tool.get("folder/fish")];
+    g.equal(
+        format_args!("what is read"),
+        unchanged,
+        [Some(fish.clone()), Some(fish)],
+    );
+    tool.put("folder/.hidden", "");
+    for name in ["folder/new", "folder/.hidden"] {
+        let args = ["matrix", "-m", "1", "folder", "-o", name];
+        tool.expect(
+            g,
+            format_args!("not read"),
+            &args,
+            b"",
+            &Expected::prints(""),
+        );
+        tool.remove("folder/new");
+    }
+}
+
+/// Bad usage: the file that `-o` names is read.
+fn refused(g: &mut Group, tool: &Tool, args: &[&str], name: &str) {
+    let expected = Expected {
+        status: 2,
+        stdout: Vec::new(),
+        stderr: vec![
+            Line::Is(format!("sigxume: -o names a file that is read: {name}")),
+            Line::Is(format!("Try 'sigxume {} --help'.", args[0])),
+        ],
+    };
+    tool.expect(g, format_args!("over its input"), args, b"", &expected);
 }

@@ -155,7 +155,7 @@ impl Matrix {
             )
         });
         (
-            "row,column,first,second,tiles,covered,score\n".into(),
+            "row,column,first_fish,second_fish,tiles,covered,score\n".into(),
             lines.collect(),
         )
     }

@@ -81,13 +81,13 @@ fn outputs(g: &mut Group, tool: &Tool) {
         tool.expect(g, case, args, b"", &printed);
         tool.expect_file(g, format_args!("{args:?}"), "made", &made);
     }
-    // Everything is read before anything is written.
-    tool.put("same", &lines);
-    let args = ["encode", "same", "-o", "same"];
-    tool.expect(g, format_args!("input is output"), &args, b"", &printed);
-    let args = ["decode", "same", "-o", "same"];
-    tool.expect(g, format_args!("input is output"), &args, b"", &printed);
-    tool.expect_file(g, format_args!("there and back"), "same", &lines);
+    tool.expect(
+        g,
+        format_args!("standard output by name"),
+        &["encode", "in", "-o", "-"],
+        b"",
+        &Expected::prints(&made[..]),
+    );
 }
 
 /// Random fish, fish at the limits, no fish, and very many.
