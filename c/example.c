@@ -78,19 +78,13 @@ static size_t next(const uint32_t *store, size_t words, size_t at, struct fish *
 /* Compares two fish and prints the listing. */
 static void compare(const struct fish *first, const struct fish *second, uint32_t minimum)
 {
-    /* The pair program's settings; SIGXUME_BUCKETS, more of them, is faster on long sequences. */
-    uint32_t multiplier = SIGXUME_MULTIPLIER;
-    uint32_t buckets = 256;
-    uint32_t start = sigxume_start(minimum);
-
     size_t workspace_len = sigxume_workspace_words(first->count, second->count);
     size_t tiles_len = sigxume_tile_words(first->count, second->count, minimum);
     uint32_t *workspace = buffer_of(workspace_len);
     uint32_t *tiles = buffer_of(tiles_len);
 
-    sigxume_compared answer = sigxume_compare_fast(
-        first->sequence, first->count, second->sequence, second->count, minimum, multiplier, buckets, start, workspace,
-        workspace_len, tiles, tiles_len);
+    sigxume_compared answer = sigxume_compare(
+        first->sequence, first->count, second->sequence, second->count, minimum, workspace, workspace_len, tiles, tiles_len);
     check("comparing", answer.refusal);
 
     printf("FISH %u %u\n", (unsigned)first->id, (unsigned)second->id);

@@ -3,12 +3,11 @@
  *
  * The work is done by a core written in Rattle and proved for every input: it answers what the definition of the tiling says, it
  * touches nothing but what it is lent, and it ends. This header only says how to call it. Link with libsigxume.a, which is for
- * x86-64 and needs nothing but the C library's memset. c/example.c is a whole program; a comparison is
+ * Linux on x86-64 and needs nothing but the C library's memset. c/example.c is a whole program; a comparison is
  *
  *     static uint32_t workspace[SIGXUME_MAX_WORKSPACE_WORDS], tiles[SIGXUME_MAX_TILE_WORDS];
- *     sigxume_compared answer = sigxume_compare_fast(
- *         first, n, second, m, minimum, SIGXUME_MULTIPLIER, SIGXUME_BUCKETS, sigxume_start(minimum),
- *         workspace, SIGXUME_MAX_WORKSPACE_WORDS, tiles, SIGXUME_MAX_TILE_WORDS);
+ *     sigxume_compared answer = sigxume_compare(
+ *         first, n, second, m, minimum, workspace, SIGXUME_MAX_WORKSPACE_WORDS, tiles, SIGXUME_MAX_TILE_WORDS);
  *     if (answer.refusal == SIGXUME_ACCEPTED)
  *         for (uint32_t i = 0; i < answer.tiles; i++)
  *             use(sigxume_tile_at(tiles, i));
@@ -74,7 +73,7 @@ extern "C" {
 #define SIGXUME_CALL(code) ((uint32_t)1 << 30 | (uint32_t)(code))
 #define SIGXUME_NO_CALL ((uint32_t)2 << 30)
 
-/* Why something is refused, and nothing is for another cause. Below, the names are without SIGXUME_REFUSED_. */
+/* The causes of a refusal; there is no other. Below, the names are without SIGXUME_REFUSED_. */
 enum sigxume_refusal {
     SIGXUME_ACCEPTED = 0,
     SIGXUME_REFUSED_TOO_LONG = 1,      /* a sequence has more than 2,048 words */
@@ -156,7 +155,7 @@ static inline size_t sigxume_hash_words(size_t words, uint32_t window)
     return window != 0 && window <= words ? words - window + 1 : 0;
 }
 
-/* The first search length that serves at a minimum: 20, or the minimum if larger. */
+/* The first search length that serves well at a minimum: 20, or the minimum if larger. */
 static inline uint32_t sigxume_start(uint32_t minimum)
 {
     return minimum > 20 ? minimum : 20;
@@ -172,10 +171,10 @@ static inline sigxume_tile sigxume_tile_at(const uint32_t *tiles, size_t index)
     return tile;
 }
 
-/* How much further on a tile lies in the second sequence: from -2,047 to 2,047. */
+/* How much further on a tile lies in the second sequence: from -2,047 to 2,047, where it was laid by a comparison. */
 static inline int32_t sigxume_shift(sigxume_tile tile)
 {
-    return (int32_t)tile.second - (int32_t)tile.first;
+    return (int32_t)(tile.second - tile.first);
 }
 
 /* A refusal's cause in words. */
@@ -255,6 +254,17 @@ sigxume_compared sigxume_compare_fast(
 sigxume_compared sigxume_compare_plain(
     const uint32_t *first, size_t first_len, const uint32_t *second, size_t second_len, uint32_t minimum, uint32_t *workspace,
     size_t workspace_len, uint32_t *tiles, size_t tiles_len);
+
+/* sigxume_compare_fast with the settings that serve well at this minimum, so that neither BUCKETS (4) nor SEARCH_LENGTH (5) is
+ * refused. */
+static inline sigxume_compared sigxume_compare(
+    const uint32_t *first, size_t first_len, const uint32_t *second, size_t second_len, uint32_t minimum, uint32_t *workspace,
+    size_t workspace_len, uint32_t *tiles, size_t tiles_len)
+{
+    return sigxume_compare_fast(
+        first, first_len, second, second_len, minimum, SIGXUME_MULTIPLIER, SIGXUME_BUCKETS, sigxume_start(minimum), workspace,
+        workspace_len, tiles, tiles_len);
+}
 
 #ifdef __cplusplus
 }
