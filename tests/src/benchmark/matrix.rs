@@ -21,7 +21,7 @@ const CODES: u16 = 40;
 const MINIMUM: u32 = 8;
 
 /// Each row is timed so often; the rows take turns.
-const RUNS: usize = 9;
+const RUNS: usize = 31;
 
 /// The matrix may take so much longer than its comparisons on the same number of threads, and must
 /// keep so much of every core busy.
