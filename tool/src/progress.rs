@@ -13,12 +13,15 @@ pub struct Progress {
 }
 
 impl Progress {
+    /// Shows the bar at its beginning.
     pub fn new(total: usize) -> Self {
-        Self {
+        let mut bar = Self {
             total,
             terminal: io::stderr().is_terminal(),
             drawn: Instant::now(),
-        }
+        };
+        bar.draw(0);
+        bar
     }
 
     /// Whether enough time has gone by to draw again.
