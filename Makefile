@@ -44,7 +44,10 @@ tool: library
 # Proves everything from nothing, then runs the tests of the library, the C example, the tool and the test program; ends with
 # the last line of `rt ci`.
 test:
-	@log=$$(mktemp)
+	@for program in rt cargo cc python3 script; do
+		command -v "$$program" > /dev/null || { echo "make test needs $$program, which is not there"; exit 1; }
+	done
+	log=$$(mktemp)
 	trap 'rm -f "$$log"' EXIT
 	rt fmt --check
 	rt ci | tee "$$log"

@@ -12,6 +12,9 @@ use sigxume::{
     Settings, Symbol, Tile,
 };
 
+/// The C header, which says some of the same.
+const HEADER: &str = include_str!("../../c/sigxume.h");
+
 /// A result with the refusal's number in its place.
 type Numbered<T> = Result<T, u32>;
 
@@ -52,6 +55,30 @@ pub fn refusals(g: &mut Group) {
     for number in [0, ROOM + 1, u32::MAX] {
         let back = Refusal::from_number(number);
         g.equal(format_args!("no refusal {number}"), back, None);
+    }
+}
+
+/// The C header has the same words for each refusal, and the same numbers.
+pub fn header(g: &mut Group) {
+    for refusal in Refusal::ALL {
+        let words = format!("return \"{}\";", refusal.reason());
+        let count = HEADER.matches(&words).count();
+        g.equal(format_args!("{refusal}"), count, 1);
+    }
+    let workspace = workspace_words(MAX_WORDS, MAX_WORDS);
+    let settings = Settings::for_minimum(1);
+    for (name, number) in [
+        ("MAX_WORDS", MAX_WORDS),
+        ("MAX_RECORD_WORDS", record_words(MAX_WORDS)),
+        ("MAX_WORKSPACE_WORDS", workspace),
+        ("MAX_TILE_WORDS", tile_words(MAX_WORDS, MAX_WORDS, 1)),
+        ("MAX_MINIMUM", sigxume::MAX_MINIMUM as usize),
+        ("MAX_BUCKETS", sigxume::MAX_BUCKETS as usize),
+        ("MULTIPLIER", settings.multiplier as usize),
+        ("BUCKETS", settings.buckets as usize),
+    ] {
+        let line = format!("#define SIGXUME_{name} {number}\n");
+        g.equal(format_args!("{name}"), HEADER.contains(&line), true);
     }
 }
 

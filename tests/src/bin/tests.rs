@@ -17,7 +17,7 @@ use std::thread;
 type Row = (&'static str, u64, fn(&mut Group));
 
 #[rustfmt::skip]
-const GROUPS: [Row; 81] = [
+const GROUPS: [Row; 82] = [
     ("reference: known pairs", 1, known::pairs),
     ("reference: known windows", 2, known::windows),
     ("reference: worked example", 3, known::example),
@@ -70,6 +70,7 @@ const GROUPS: [Row; 81] = [
     ("restart: a shorter block first", 49, restarts::shorter_first),
     ("restart: again and again", 50, restarts::in_a_row),
     ("library: refusals", 75, library::refusals),
+    ("library: C header", 82, library::header),
     ("library: symbols", 76, library::symbols),
     ("library: one record", 77, library::one_record),
     ("library: records in a row", 78, library::rows),

@@ -15,6 +15,17 @@ use crate::reference::{MAX_WORDS, MINIMUM};
 use crate::samples::{call, ids, NO_CALL};
 use std::fmt::Arguments;
 
+/// A known pair as fish 12 and fish 13, with its minimum.
+fn known_pair(row: &known::Known) -> ([Fish; 2], u32) {
+    let pair = [Fish::new(12, &row.first), Fish::new(13, &row.second)];
+    (pair, row.minimum as u32)
+}
+
+/// K1 to K11.
+pub fn known_pairs() -> Vec<([Fish; 2], u32)> {
+    known::rows().map(|row| known_pair(&row)).collect()
+}
+
 /// A random pair of fish with a minimum.
 pub fn any_fish_pair(g: &mut Group) -> ([Fish; 2], u32) {
     let random = &mut g.random;
@@ -189,8 +200,7 @@ fn like_text(g: &mut Group, tool: &Tool) {
 pub fn compare(g: &mut Group) {
     let tool = Tool::new(g);
     for row in known::rows() {
-        let pair = [Fish::new(12, &row.first), Fish::new(13, &row.second)];
-        let minimum = row.minimum as u32;
+        let (pair, minimum) = known_pair(&row);
         let case = format_args!("{}", row.name);
         let listing = Compared::new(&pair[0], &pair[1], minimum).listing();
         let summary = format!("SCORE {}\n", row.score);

@@ -1,14 +1,13 @@
 //! `compare --json`: the text byte for byte, and what a stock parser reads in it.
 
-use super::compare::{any_fish_pair, larger};
+use super::compare::{any_fish_pair, known_pairs, larger};
 use super::expected::{differing, Expected, Line};
 use super::faults::refusal;
-use super::fish::{records, text, Fish};
+use super::fish::{records, text};
 use super::python;
 use super::results::Compared;
 use super::Tool;
 use crate::group::Group;
-use crate::known;
 use crate::reference::MINIMUM;
 
 /// Reads a JSON text from each line and prints its values in a form of its own; a key that is missing, out
@@ -48,12 +47,7 @@ fn values(compared: &Compared) -> String {
 /// Known, random and large pairs.
 pub fn json(g: &mut Group) {
     let tool = Tool::new(g);
-    let mut pairs: Vec<([Fish; 2], u32)> = known::rows()
-        .map(|row| {
-            let pair = [Fish::new(12, &row.first), Fish::new(13, &row.second)];
-            (pair, row.minimum as u32)
-        })
-        .collect();
+    let mut pairs = known_pairs();
     pairs.extend((0..150).map(|_| any_fish_pair(g)));
     pairs.extend(larger(g));
     let (mut printed, mut expected) = (Vec::new(), String::new());

@@ -1,6 +1,6 @@
 //! `plot`: pairs whose pictures are read by a stock XML parser.
 
-use super::compare::{any_fish_pair, larger};
+use super::compare::{any_fish_pair, known_pairs, larger};
 use super::expected::{Expected, Line};
 use super::faults::refusal;
 use super::fish::{records, text, Fish};
@@ -42,12 +42,7 @@ fn made() -> Vec<([Fish; 2], u32)> {
 /// Known, made, random, empty and large pairs.
 pub fn plot(g: &mut Group) {
     let tool = Tool::new(g);
-    let mut pairs: Vec<([Fish; 2], u32)> = known::rows()
-        .map(|row| {
-            let pair = [Fish::new(12, &row.first), Fish::new(13, &row.second)];
-            (pair, row.minimum as u32)
-        })
-        .collect();
+    let mut pairs = known_pairs();
     pairs.extend(made());
     pairs.extend((0..60).map(|_| any_fish_pair(g)));
     pairs.extend(larger(g));
