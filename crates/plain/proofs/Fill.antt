@@ -1,21 +1,35 @@
--- The bounds, filled row by row: each is at least every run of its row, and a store among them leaves the sequences as they are.
+-- The bounds, filled row by row: a row's search finds the length of its longest run, or its floor where that is greater; and a store among
+-- the bounds leaves the sequences as they are.
 -- Assumes nothing.
-use Prim.Native.Nat.{ℕ, _+_, _-_, _≤_, _<_}
+use Prim.Native.Nat.{ℕ, _+_, _-_, _≤_, _<_, max}
 use native.Mathlib.Nat.{not-suc-le-zero}
-use native.Mathlib.Decide.{ℕ-discrete}
+use native.Mathlib.Decide.{decLt, ℕ-discrete}
 use native.Mathlib.Omega.{arith}
-use mathlib.Core.Path.{_≡_, refl, sym, _∙_, subst}
+use mathlib.Core.Path.{_≡_, refl, sym, _∙_, ap, subst}
 use mathlib.Core.List.{List}
 use lib.ListN.{length, drop, set, length-set, length-drop}
 use lib.Seq.{getD-set-same, getD-set-other}
-use Rattle.tiling.specs.Tiling.{runAt}
+use Rattle.tiling.specs.Tiling.{State, rowLength, bestText}
+use Rattle.tiling.proofs.Best.{row-most}
 use Rattle.sweep.specs.Workspace.{Space, state, boundsFrom, bound}
 use Rattle.sweep.specs.Row.{Row}
-use Rattle.sweep.specs.Progress.{Filled}
+use Rattle.sweep.specs.Progress.{Fits, Ready, Finished}
 use Rattle.sweep.specs.declared.Job.{Job}
 use Rattle.sweep.specs.declared.Found.{Found}
+use Rattle.sweep.specs.declared.Totals.{Totals}
 use Rattle.sweep.proofs.Row.{row-small}
+use Rattle.sweep.proofs.Turn.{unmoved-fits, unmoved-finished}
 use Rattle.sweep.proofs.Workspace.{state-set, space-kept, pattern-length}
+use Rattle.plain.specs.Bounds.{LongestRuns}
+
+-- What a row's search found.
+row-found : (s : State) (p floor : ℕ) (f : Found) → Row (drop p (s .pattern)) (s .text) floor f → f .len ≡ max floor (rowLength s p)
+unfolding rowLength
+row-found s p floor f r = go (decLt floor (f .len))
+  where
+    go : Dec (floor < f .len) → f .len ≡ max floor (rowLength s p)
+    go (yes l) = omega (arith, r .long l, row-most s p (f .t .0), r .most (bestText s p))
+    go (no l) = omega (arith, r .least, r .most (bestText s p))
 
 pub record Filling (j : Job) (ws₀ ws : List ℕ) (p : ℕ) : Type 0 where
   pub within : p ≤ j .n
@@ -24,7 +38,7 @@ pub record Filling (j : Job) (ws₀ ws : List ℕ) (p : ℕ) : Type 0 where
   pub space : Space j ws
   pub same-room : length ws ≡ length ws₀
   pub same : state j ws ≡ state j ws₀
-  pub upper : (q t : ℕ) → q < p → runAt (state j ws₀) q t ≤ bound j ws q
+  pub exact : (q : ℕ) → q < p → bound j ws q ≡ max (j .minimum - 1) (rowLength (state j ws₀) q)
 
 pub filling-none : (j : Job) (ws : List ℕ) → Space j ws → 1 ≤ j .minimum → j .minimum ≤ 256 → Filling j ws ws 0
 filling-none j ws s h k =
@@ -35,7 +49,7 @@ filling-none j ws s h k =
       space = s;
       same-room = refl;
       same = refl;
-      upper = λ q t l. absurd (not-suc-le-zero l);
+      exact = λ q l. absurd (not-suc-le-zero l);
     }
 
 module _ (j : Job) (ws₀ ws : List ℕ) (p : ℕ) (f : Found) (s : Filling j ws₀ ws p) (inside : p < j .n) (r : Row (drop p (state j ws .pattern)) (state j ws .text) (j .minimum - 1) f) where
@@ -55,21 +69,28 @@ module _ (j : Job) (ws₀ ws : List ℕ) (p : ℕ) (f : Found) (s : Filling j ws
         space = space-kept j ws (set ws (boundsFrom j + p) (f .len)) (length-set ws (boundsFrom j + p) (f .len)) (s .space);
         same-room = length-set ws (boundsFrom j + p) (f .len) ∙ s .same-room;
         same = state-set j ws p (f .len) ∙ s .same;
-        upper = λ q t h. upper q t h (ℕ-discrete q p);
+        exact = λ q h. exact q h (ℕ-discrete q p);
       })
     where
-      upper : (q t : ℕ) → q < p + 1 → Dec (q ≡ p) → runAt (state j ws₀) q t ≤ bound j (set ws (boundsFrom j + p) (f .len)) q
-      upper q t h (yes q≡p) =
-          rw q≡p
-          (subst (λ u. runAt u p t ≤ bound j (set ws (boundsFrom j + p) (f .len)) p) (s .same)
-          (omega (arith, getD-set-same ws (boundsFrom j + p) (f .len) 0 (omega (arith, s .space .roomy)), r .most t)))
-      upper q t h (no d) =
-          omega (arith, getD-set-other ws (boundsFrom j + p) (boundsFrom j + q) (f .len) 0 (λ k. d (omega arith)), s .upper q t (omega (arith, d)))
+      here : f .len ≡ max (j .minimum - 1) (rowLength (state j ws₀) p)
+      here = row-found (state j ws) p (j .minimum - 1) f r ∙ ap (λ u. max (j .minimum - 1) (rowLength u p)) (s .same)
 
-pub filled : (j : Job) (ws₀ ws : List ℕ) (p : ℕ) → Filling j ws₀ ws p → j .n ≤ p → Filled j ws₀ ws
-filled j ws₀ ws p s h =
-    record {
-      same = s .same;
-      space = s .space;
-      upper = λ q t l. subst (λ u. runAt u q t ≤ bound j ws q) (sym (s .same)) (s .upper q t (omega (arith, h)));
-    }
+      exact : (q : ℕ) → q < p + 1 → Dec (q ≡ p) → bound j (set ws (boundsFrom j + p) (f .len)) q ≡ max (j .minimum - 1) (rowLength (state j ws₀) q)
+      exact q h (yes k) = rw k (getD-set-same ws (boundsFrom j + p) (f .len) 0 (omega (arith, s .space .roomy)) ∙ here)
+      exact q h (no d) = getD-set-other ws (boundsFrom j + p) (boundsFrom j + q) (f .len) 0 (λ k. d (omega arith)) ∙ s .exact q (omega (arith, d))
+
+pub filled : (j : Job) (ws₀ ws : List ℕ) (p : ℕ) → Filling j ws₀ ws p → j .n ≤ p → LongestRuns j ws₀ ws
+filled j ws₀ ws p s h = record { same = s .same; space = s .space; exact = λ q l. s .exact q (omega (arith, h)) }
+
+module _ (j : Job) (ws ws' b : List ℕ) (k : Totals) (r : LongestRuns j ws ws') where
+  -- No run of a row exceeds its longest, so the tiles can be laid.
+  pub filled-ready : Fits j ws b k → length ws' ≡ length ws → Ready j ws' b k
+  filled-ready fits same =
+      record {
+        fits = unmoved-fits j ws ws' b k (r .same) same fits;
+        upper = λ q t l. omega (arith, r .exact q l, row-most (state j ws') q t, ap (λ u. rowLength u q) (r .same));
+      }
+
+  -- What is laid from there is laid from the start.
+  pub filled-finished : (n : ℕ) (ws₂ b₂ : List ℕ) (k₂ : Totals) → Finished j n ws' b k ws₂ b₂ k₂ → Finished j n ws b k ws₂ b₂ k₂
+  filled-finished n ws₂ b₂ k₂ = unmoved-finished j ws ws' b k (r .same) n ws₂ b₂ k₂

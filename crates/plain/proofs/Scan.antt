@@ -19,31 +19,9 @@ use Rattle.tile.specs.declared.TextAt.{TextAt}
 use Rattle.tile.proofs.Measure.{run-most}
 use Rattle.tile.proofs.Tail.{tail-is}
 use Rattle.sweep.specs.Row.{Row, better}
+use Rattle.sweep.specs.First.{First}
 use Rattle.sweep.specs.declared.Found.{Found}
 use Rattle.sweep.proofs.Row.{better-new, better-old}
-use Rattle.plain.specs.Scanned.{Scanned}
-
--- ---- the next occurrence of a word
-pub record Scanning (words : List ℕ) (from w i : ℕ) : Type 0 where
-  pub least : from ≤ i
-  pub within : i ≤ length words
-  pub none : (k : ℕ) → from ≤ k → k < i → getD words k 0 ≡ w → ⊥
-
-pub scanning-none : (words : List ℕ) (from w : ℕ) → from ≤ length words → Scanning words from w from
-scanning-none words from w h = record { least = omega arith; within = h; none = λ k a b e. absurd (omega arith) }
-
-pub scanning-more : (words : List ℕ) (from w i : ℕ) → Scanning words from w i → i < length words → (getD words i 0 ≡ w → ⊥) → Scanning words from w (i + 1)
-scanning-more words from w i r h d = record { least = omega (arith, r .least); within = omega arith; none = λ k a b. none k a b (ℕ-discrete k i) }
-  where
-    none : (k : ℕ) → from ≤ k → k < i + 1 → Dec (k ≡ i) → getD words k 0 ≡ w → ⊥
-    none k a b (yes e) = rw e d
-    none k a b (no n) = r .none k a (omega (arith, n))
-
-pub scanned-end : (words : List ℕ) (from w i : ℕ) → Scanning words from w i → length words ≤ i → Scanned words from w i
-scanned-end words from w i r h = record { least = r .least; within = r .within; none = r .none; stops = λ l. absurd (omega arith) }
-
-pub scanned-at : (words : List ℕ) (from w i : ℕ) → Scanning words from w i → getD words i 0 ≡ w → Scanned words from w i
-scanned-at words from w i r e = record { least = r .least; within = r .within; none = r .none; stops = λ l. e }
 
 -- ---- a row
 -- What the loop's test says of the next word's place.
@@ -73,7 +51,7 @@ seen-none ps ts floor a h p t =
       first = λ l. absurd (omega arith);
     }
 
-module _ (ps ts : List ℕ) (floor t : ℕ) (f : Found) (r len : ℕ) (a : TextAt) (s : Seen ps ts floor t f) (h : f .len < length ps) (k : t + f .len < length ts) (c : Scanned ts (t + f .len) (getD ps (f .len) 0) r) (at : a .0 ≡ r - f .len) (e : len ≡ max (f .len) (run ps (take (length ts - (r - f .len)) (drop (r - f .len) ts)))) where
+module _ (ps ts : List ℕ) (floor t : ℕ) (f : Found) (r len : ℕ) (a : TextAt) (s : Seen ps ts floor t f) (h : f .len < length ps) (k : t + f .len < length ts) (c : First (λ i. getD ts i 0 ≡ getD ps (f .len) 0) (t + f .len) (length ts) r) (at : a .0 ≡ r - f .len) (e : len ≡ max (f .len) (run ps (take (length ts - (r - f .len)) (drop (r - f .len) ts)))) where
   -- A position that was passed over lacks the word at that offset.
   passed-over : (u : ℕ) → t ≤ u → u < r - f .len → run ps (drop u ts) ≤ f .len
   passed-over u l m =

@@ -6,30 +6,26 @@ use tile::PatternAt;
 use tile::TextAt;
 use tiling::Compared;
 ghost use mathlib.Core.Path.{_≡_};
-ghost use mathlib.Core.List.{map};
-ghost use Prim.Native.Nat.{_+_, _≤_, _<_, min};
-ghost use lib.ListN.{length, drop};
-ghost use Rattle.tiling.specs.Tiling.{start, tiling};
-ghost use Rattle.tiling.specs.Listing.{listing};
+ghost use Prim.Native.Nat.{_+_, _≤_, _<_};
+ghost use lib.ListN.{length, drop, getD};
 ghost use Rattle.tiling.specs.Comparing.{plainRefusal};
-ghost use Rattle.tile.specs.Listed.{listed};
 ghost use Rattle.sweep.specs.Workspace.{Space, state};
 ghost use Rattle.sweep.specs.Row.{Row};
-ghost use Rattle.sweep.specs.Progress.{Filled, Ready, Sweeping, Onward, Finished};
-ghost use Rattle.sweep.specs.Result.{Listed, Checked};
+ghost use Rattle.sweep.specs.First.{First};
+ghost use Rattle.sweep.specs.Progress.{Fits, Ready, Sweeping, Onward, Finished};
 ghost use Rattle.plain.specs.Promise.{Plain};
-ghost use Rattle.plain.specs.Scanned.{Scanned};
+ghost use Rattle.plain.specs.Bounds.{LongestRuns};
 
-// The first position from `from` on that holds w, or the end.
-fn next_word(words: &[u32], from: usize, w: u32) -> usize
-    requires { ⌜ from ≤ length (now words) ⌝ }
-    ensures { λ r. ⌜ Scanned (now (words .entry)) from w r ⌝ }
+// The first position of the text from `from` on that holds w, or its end.
+fn next_word(text: &[u32], from: TextAt, w: u32) -> TextAt
+    requires { ⌜ from .0 ≤ length (now text) ⌝ }
+    ensures { λ r. ⌜ First (λ i. getD (now (text .entry)) i 0 ≡ w) (from .0) (length (now (text .entry))) (r .0) ⌝ }
 {
-    let mut i = from;
-    while i < words.len() && words[i] != w {
+    let mut i = from.0;
+    while i < text.len() && text[i] != w {
         i += 1;
     }
-    i
+    TextAt(i)
 }
 
 // The longest run of the row that pattern starts, where it is longer than floor, and the first position on the text that
@@ -45,7 +41,7 @@ fn row_search(pattern: &[u32], text: &[u32], floor: usize) -> Found
     let mut t = 0;
     while found.len < pattern.len() && t + found.len < text.len() {
         let offset = found.len;
-        let at = next_word(text, t + offset, pattern[offset]) - offset;
+        let at = next_word(text, TextAt(t + offset), pattern[offset]).0 - offset;
         let len = tile::longer_run(pattern, &text[at..], offset);
         found = sweep::keep(found, TextAt(at), len);
         t = at + 1;
@@ -67,7 +63,7 @@ fn search_row(ws: &[u32], job: Job, p: PatternAt, floor: usize) -> Found
 // Sets the bound of each row to the length of its longest run, or to one below the minimum where that is greater.
 fn fill_bounds(ws: &mut [u32], job: Job)
     requires { ⌜ Space job (now ws) × (1 ≤ job .minimum) × (job .minimum ≤ 256) ⌝ }
-    ensures { λ r. ⌜ Filled job (now (ws .entry)) (now (ws .exit)) ⌝ }
+    ensures { λ r. ⌜ LongestRuns job (now (ws .entry)) (now (ws .exit)) ⌝ }
 {
     let mut p = 0;
     while p < job.n {
@@ -126,48 +122,13 @@ fn lay_all(ws: &mut [u32], job: Job, tiles: &mut [u32], totals: Totals) -> Total
     sum
 }
 
-// Tiles a pattern and a text, which have been checked.
-fn tile_pair(
-    pattern: &[u32],
-    text: &[u32],
-    minimum: usize,
-    straight: bool,
-    ws: &mut [u32],
-    tiles: &mut [u32],
-) -> Totals
-    requires { ⌜ Checked (length (now pattern)) (length (now text)) (length (now pattern)) minimum (length (now ws)) (length (now tiles)) ⌝ }
-    ensures { λ r. ⌜ Listed (map (listed straight) (tiling minimum (start (now (pattern .entry)) (now (text .entry))))) (now (tiles .entry)) (now (tiles .exit)) r ⌝ }
+// Lays every tile of at least the minimum, from the state that the workspace holds.
+fn tile_all(ws: &mut [u32], job: Job, tiles: &mut [u32], totals: Totals) -> Totals
+    requires { ⌜ Fits job (now ws) (now tiles) totals ⌝ }
+    ensures { λ r. ⌜ Finished job (job .minimum) (now (ws .entry)) (now (tiles .entry)) totals (now (ws .exit)) (now (tiles .exit)) r ⌝ }
 {
-    let job = Job {
-        n: pattern.len(),
-        m: text.len(),
-        minimum,
-        straight,
-    };
-    let none = Totals {
-        count: 0,
-        covered: 0,
-    };
-    sweep::copy_in(pattern, text, ws);
     fill_bounds(ws, job);
-    lay_all(ws, job, tiles, none)
-}
-
-// Tiles two sequences, which have been checked. The shorter is the pattern; of equal lengths, the first.
-fn tile_sides(
-    first: &[u32],
-    second: &[u32],
-    minimum: usize,
-    ws: &mut [u32],
-    tiles: &mut [u32],
-) -> Totals
-    requires { ⌜ Checked (length (now first)) (length (now second)) (min (length (now first)) (length (now second))) minimum (length (now ws)) (length (now tiles)) ⌝ }
-    ensures { λ r. ⌜ Listed (listing (now (first .entry)) (now (second .entry)) minimum) (now (tiles .entry)) (now (tiles .exit)) r ⌝ }
-{
-    if first.len() <= second.len() {
-        return tile_pair(first, second, minimum, true, ws, tiles);
-    }
-    tile_pair(second, first, minimum, false, ws, tiles)
+    lay_all(ws, job, tiles, totals)
 }
 
 // Why a comparison is refused; 0 where it is not.
@@ -207,20 +168,13 @@ pub fn compare(
 {
     let refusal = plain_refusal(first, second, minimum, workspace.len(), tiles.len());
     if refusal != 0 {
-        return Compared {
-            refusal,
-            tiles: 0,
-            covered: 0,
-            score: 0,
-        };
+        return ends::refused(refusal);
     }
-    let sum = tile_sides(first, second, minimum as usize, workspace, tiles);
-    let words = workspace.len();
-    tile::mark_words(workspace, 0, words);
-    Compared {
-        refusal: 0,
-        tiles: sum.count as u32,
-        covered: sum.covered as u32,
-        score: tile::score_of(sum.covered, first.len() + second.len()),
-    }
+    let none = Totals {
+        count: 0,
+        covered: 0,
+    };
+    let job = ends::open(first, second, minimum as usize, workspace);
+    let sum = tile_all(workspace, job, tiles, none);
+    ends::close(workspace, job, sum)
 }

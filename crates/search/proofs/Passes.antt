@@ -29,33 +29,6 @@ use Rattle.rows.specs.Reached.{FilledRows, Measured}
 use Rattle.levels.specs.Searching.{Searching}
 use Rattle.search.specs.Passing.{Set, Tried, Stretch}
 
--- ---- where the sequences are as they were
-module _ (j : Job) (ws ws' b : List ℕ) (k : Totals) (same : state j ws' ≡ state j ws) where
-  unmoved-fits : length ws' ≡ length ws → Fits j ws b k → Fits j ws' b k
-  unmoved-fits e f =
-      record {
-        space = space-kept j ws ws' e (f .space);
-        least = f .least;
-        most = f .most;
-        tile-room = f .tile-room;
-        each = f .each;
-        free = omega (arith, ap (λ u. tally isCall (u .pattern)) same, f .free);
-      }
-
-  unmoved-onward : Onward j ws b k ws' b k
-  unmoved-onward =
-      record {
-        keeps =
-            λ s₀ b₀ l.
-            record {
-              tiles = l .tiles;
-              rest = λ ls g. l .rest ls (subst (λ u. Greedy best size lay (j .minimum) u ls) same g);
-              held = l .held;
-              counted = l .counted;
-              summed = l .summed;
-            };
-      }
-
 -- ---- the index and what is measured by it
 module _ (j : Job) (s n : ℕ) (heads : List ℕ) (seen : List Bool) (ws ws₁ ws₂ : List ℕ) (built : Built j s n ws ws₁ heads seen) where
   pub measured-built : (r : ℕ) → Measured j s n heads seen ws₁ ws₂ r → Measured j s n heads seen ws ws₂ r

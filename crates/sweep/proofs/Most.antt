@@ -7,7 +7,15 @@ use native.Mathlib.Omega.{arith}
 use mathlib.Core.Path.{_≡_}
 use mathlib.Core.List.{List}
 use lib.ListN.{length, getD}
-use Rattle.sweep.specs.Row.{Greatest}
+use Rattle.sweep.specs.Row.{Among, Greatest}
+
+-- The greatest is below what all of them are below.
+pub greatest-below : (f : ℕ → ℕ) (n r l : ℕ) → Greatest f n r → 0 < l → ((i : ℕ) → i < n → f i < l) → r < l
+greatest-below f n r l g some below = go (decLt 0 r)
+  where
+    go : Dec (0 < r) → r < l
+    go (yes h) = let a = g .one h in omega (arith, a .here, below (a .at) (a .below))
+    go (no h) = omega (arith, h)
 
 pub record Seen (words : List ℕ) (i r : ℕ) : Type 0 where
   pub within : i ≤ length words
@@ -17,19 +25,23 @@ pub seen-none : (words : List ℕ) → Seen words 0 0
 seen-none words =
     record {
       within = omega arith;
-      greatest = record { most = λ i h. absurd (not-suc-le-zero h); least = λ l h f. h };
+      greatest = record { most = λ i h. absurd (not-suc-le-zero h); one = λ h. absurd (not-suc-le-zero h) };
     }
 
 pub seen-more : (words : List ℕ) (i r s : ℕ) → Seen words i r → i < length words → s ≡ max r (getD words i 0) → Seen words (i + 1) s
 seen-more words i r s g h e =
     record {
       within = omega arith;
-      greatest = record { most = λ k l. most k l (decLt k i); least = λ l z f. omega (arith, e, g .greatest .least l z (λ k m. f k (omega arith)), f i (omega arith)) };
+      greatest = record { most = λ k l. most k l (decLt k i); one = λ z. one z (decLt r s) };
     }
   where
     most : (k : ℕ) → k < i + 1 → Dec (k < i) → getD words k 0 ≤ s
     most k l (yes m) = omega (arith, e, g .greatest .most k m)
     most k l (no m) = let q : k ≡ i = omega (arith, m) in rw q (omega (arith, e))
+
+    one : 0 < s → Dec (r < s) → Among (λ k. getD words k 0) (i + 1) s
+    one z (yes m) = record { at = i; below = omega arith; here = omega (arith, e) }
+    one z (no m) = let a = g .greatest .one (omega (arith, e, m)) in record { at = a .at; below = omega (arith, a .below); here = omega (arith, a .here, e, m) }
 
 pub seen-all : (words : List ℕ) (i r : ℕ) → Seen words i r → length words ≤ i → Greatest (λ k. getD words k 0) (length words) r
 seen-all words i r g h = let e : i ≡ length words = omega (arith, g .within) in rw e at (g .greatest)

@@ -5,24 +5,64 @@ use Prim.Native.Nat.{ℕ, _+_, _-_, _≤_, _<_}
 use native.Mathlib.Decide.{ℕ-discrete}
 use native.Mathlib.Nat.{not-suc-le-zero}
 use native.Mathlib.Omega.{arith}
-use mathlib.Core.Path.{_≡_, refl, _∙_}
+use mathlib.Core.Path.{_≡_, refl, _∙_, ap, subst}
 use mathlib.Core.List.{List}
 use lib.ListN.{length, drop}
 use Rattle.sweep.specs.Workspace.{state, bound}
 use Rattle.sweep.specs.Row.{Row, Greatest}
-use Rattle.sweep.specs.Progress.{Bounded, Onward, Sweeping, Searched, Ready, Finished}
+use Rattle.sweep.specs.Progress.{Fits, Bounded, Onward, Sweeping, Searched, Ready, Finished}
 use Rattle.sweep.specs.declared.Job.{Job}
 use Rattle.sweep.specs.declared.Found.{Found}
 use Rattle.sweep.specs.declared.Totals.{Totals}
-use Rattle.tiling.specs.Tiling.{best}
+use Rattle.symbol.specs.Word.{isCall}
+use Rattle.tiling.specs.Tally.{tally}
+use Rattle.tiling.specs.Tiling.{best, size, lay}
+use Rattle.tiling.proofs.Greedy.{Greedy}
 use Rattle.tiling.proofs.Best.{best-is}
 use Rattle.sweep.proofs.Step.{below-level}
+use Rattle.sweep.proofs.Most.{greatest-below}
+use Rattle.sweep.proofs.Workspace.{space-kept}
 
 pub onward-none : (j : Job) (ws b : List ℕ) (k : Totals) → Onward j ws b k ws b k
 onward-none j ws b k = record { keeps = λ s₀ b₀ l. l }
 
 pub onward-more : (j : Job) (ws₀ b₀ ws b ws' b' : List ℕ) (k₀ k k' : Totals) → Onward j ws₀ b₀ k₀ ws b k → Onward j ws b k ws' b' k' → Onward j ws₀ b₀ k₀ ws' b' k'
 onward-more j ws₀ b₀ ws b ws' b' k₀ k k' x y = record { keeps = λ s c l. y .keeps s c (x .keeps s c l) }
+
+-- ---- where the sequences are as they were
+module _ (j : Job) (ws ws' b : List ℕ) (k : Totals) (same : state j ws' ≡ state j ws) where
+  pub unmoved-fits : length ws' ≡ length ws → Fits j ws b k → Fits j ws' b k
+  unmoved-fits e f =
+      record {
+        space = space-kept j ws ws' e (f .space);
+        least = f .least;
+        most = f .most;
+        tile-room = f .tile-room;
+        each = f .each;
+        free = omega (arith, ap (λ u. tally isCall (u .pattern)) same, f .free);
+      }
+
+  pub unmoved-onward : Onward j ws b k ws' b k
+  unmoved-onward =
+      record {
+        keeps =
+            λ s₀ b₀ l.
+            record {
+              tiles = l .tiles;
+              rest = λ ls g. l .rest ls (subst (λ u. Greedy best size lay (j .minimum) u ls) same g);
+              held = l .held;
+              counted = l .counted;
+              summed = l .summed;
+            };
+      }
+
+  pub unmoved-finished : (n : ℕ) (ws₂ b₂ : List ℕ) (k₂ : Totals) → Finished j n ws' b k ws₂ b₂ k₂ → Finished j n ws b k ws₂ b₂ k₂
+  unmoved-finished n ws₂ b₂ k₂ f =
+      record {
+        fits = f .fits;
+        onward = onward-more j ws b ws' b ws₂ b₂ k k k₂ unmoved-onward (f .onward);
+        short = f .short;
+      }
 
 -- ---- a row
 module _ (j : Job) (level p : ℕ) (ws b : List ℕ) (k : Totals) (s : Sweeping j level p ws b k) (inside : p < j .n) where
@@ -99,7 +139,7 @@ level-sweep j n ws₀ b₀ k₀ ws b k level l h =
 module _ (j : Job) (level : ℕ) (ws' b' : List ℕ) (k' : Totals) (s : Sweeping j level (j .n) ws' b' k') (next : ℕ) (g : Greatest (bound j ws') (j .n) next) where
   -- After a sweep every bound is below the level.
   pub level-less : next < level
-  level-less = g .least level (omega (arith, s .fits .least, s .long)) (λ q h. s .bounded .passed q h)
+  level-less = greatest-below (bound j ws') (j .n) next level g (omega (arith, s .fits .least, s .long)) (λ q h. s .bounded .passed q h)
 
   pub level-more : (n : ℕ) (ws₀ b₀ ws b : List ℕ) (k₀ k : Totals) → Level j n ws₀ b₀ k₀ ws b k level → Onward j ws b k ws' b' k' → length ws' ≡ length ws → length b' ≡ length b → Level j n ws₀ b₀ k₀ ws' b' k' next
   level-more n ws₀ b₀ ws b k₀ k l o v w =

@@ -6,8 +6,6 @@ use mathlib.Core.Path.{_≡_, refl, _∙_}
 use mathlib.Core.List.{List, [], _∷_, _++_}
 use lib.ListN.{length, take, drop, getD, set, length-drop}
 use lib.Seq.{length-take-le, getD-drop, getD-take, take-nil, take-set-le, drop-set-add}
-use Rattle.buffer.specs.Buffer.{onto}
-use Rattle.buffer.proofs.Buffer.{onto-part}
 use Rattle.tiling.specs.Run.{mark}
 use Rattle.tiling.specs.Tiling.{State, lay}
 use Rattle.tiling.proofs.Run.{length-mark, mark-before, mark-inside, mark-after}
@@ -15,12 +13,6 @@ use Rattle.tile.proofs.Marking.{take-mark-in, take-mark-out, drop-mark-in, drop
 use Rattle.sweep.specs.Workspace.{Space, state, boundsFrom, bound, laid}
 use Rattle.sweep.specs.Row.{Greatest}
 use Rattle.sweep.specs.declared.Job.{Job}
-
--- Pattern and text at the start.
-pub copied-in : (pattern text ws ws₁ part : List ℕ) → ws₁ ≡ onto pattern ws → part ≡ onto text (take (length pattern + length text - length pattern) (drop (length pattern) ws₁)) → take (length pattern) ws₁ ++ (part ++ drop (length pattern + length text - length pattern) (drop (length pattern) ws₁)) ≡ onto (pattern ++ text) ws
-copied-in pattern text ws ws₁ part e k =
-    let n : length pattern + length text - length pattern ≡ length text = omega arith in
-    rw (k, n, e) (onto-part pattern text ws (length pattern) refl)
 
 -- ---- the sequences in the workspace
 -- A part from p to n is the rest, from p on, of the part up to n.
@@ -111,5 +103,8 @@ greatest-bounds j ws w r s g e =
     (λ i h. getD-take (from + j .n - from) (drop from ws) i 0 (omega arith) ∙ getD-drop from ws i 0) in
     record {
       most = λ i h. omega (arith, at i h, g .most i (omega (arith, n)), e);
-      least = λ l z f. rw e (g .least l z (λ i h. let u : i < j .n = omega (arith, n) in omega (arith, at i u, f i u)));
+      one = λ z.
+          let a = g .one (omega (arith, e)) in
+          let u : a .at < j .n = omega (arith, n, a .below) in
+          record { at = a .at; below = u; here = omega (arith, at (a .at) u, a .here, e) };
     }

@@ -1,5 +1,5 @@
 pub mod Workspace
 pub mod Row
+pub mod First
 pub mod Settled
 pub mod Progress
-pub mod Result

@@ -22,7 +22,13 @@ pub record Row (ps ts : List ℕ) (floor : ℕ) (f : Found) : Type 0 where
 unfoldable pub better : Found → TextAt → ℕ → Found
 better f t len = elim (ltb (f .len) len) [ true ↦ record { t = t; len = len } | false ↦ f ]
 
--- r is the greatest of f 0, .. f (n - 1), or 0 where n is 0: none of them is greater, and it is below what all of them are below.
+-- r is one of f 0, .. f (n - 1).
+pub record Among (f : ℕ → ℕ) (n r : ℕ) : Type 0 where
+  pub at : ℕ
+  pub below : at < n
+  pub here : f at ≡ r
+
+-- r is the greatest of f 0, .. f (n - 1), or 0 where there is none above it: none of them is greater, and it is one of them.
 pub record Greatest (f : ℕ → ℕ) (n r : ℕ) : Type 0 where
   pub most : (i : ℕ) → i < n → f i ≤ r
-  pub least : (l : ℕ) → 0 < l → ((i : ℕ) → i < n → f i < l) → r < l
+  pub one : 0 < r → Among f n r

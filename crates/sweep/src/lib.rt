@@ -3,10 +3,8 @@
 use tile::PatternAt;
 use tile::TextAt;
 ghost use mathlib.Core.Path.{_≡_};
-ghost use mathlib.Core.List.{_++_};
 ghost use Prim.Native.Nat.{_+_, _≤_, _<_, max};
 ghost use lib.ListN.{length, getD, set};
-ghost use Rattle.buffer.specs.Buffer.{onto};
 ghost use Rattle.sweep.specs.Workspace.{Space, boundsFrom, bound, laid};
 ghost use Rattle.sweep.specs.Row.{better, Greatest};
 ghost use Rattle.sweep.specs.Settled.{settledWords, settledTiles, settledTotals};
@@ -139,15 +137,4 @@ pub fn settle(
         count: totals.count + 1,
         covered: totals.covered + level,
     }
-}
-
-// Puts pattern and text to the start of the workspace.
-pub fn copy_in(pattern: &[u32], text: &[u32], ws: &mut [u32])
-    requires { ⌜ length (now pattern) + length (now text) ≤ length (now ws) ⌝ }
-    ensures { λ r. ⌜ now (ws .exit) ≡ onto (now (pattern .entry) ++ now (text .entry)) (now (ws .entry)) ⌝ }
-{
-    let n = pattern.len();
-    let end = n + text.len();
-    buffer::copy(pattern, ws);
-    buffer::copy(text, &mut ws[n..end]);
 }

@@ -20,8 +20,8 @@ loop-holds c = search seen-none
 add-if2 : tie.Need-add-if2 Inv-loop μ-loop
 add-if2 c = search needs
 
-add-next-word : tie.Need-add-next-word Inv-loop μ-loop
-add-next-word c = search needs
+add-longer-run : tie.Need-add-longer-run Inv-loop μ-loop
+add-longer-run c = search needs
 
 mul-next-word : tie.Need-mul-next-word Inv-loop μ-loop
 mul-next-word c = search needs
@@ -76,7 +76,7 @@ row-search-spec =
     μ-loop
     loop-holds
     add-if2
-    add-next-word
+    add-longer-run
     mul-next-word
     shared-slice-read-next-word
     next-word-requires

@@ -1,9 +1,9 @@
--- `sweep::copy_in` meets its contract: the pattern stands at the start, and the text is copied to the part after it.
+-- `ends::copy_in` meets its contract: the pattern stands at the start, and the text is copied to the part after it.
 -- Assumes nothing.
-use Rattle.sweep.proofs.Workspace.{copied-in}
+use Rattle.ends.proofs.Opening.{copied-in}
 use borrow.Author.Needs.{needs}
-use Rattle.sweep.proofs.copy_in.Statement.{statement}
-use Rattle.sweep.proofs.copy_in.Tie as tie
+use Rattle.ends.proofs.copy_in.Statement.{statement}
+use Rattle.ends.proofs.copy_in.Tie as tie
 
 add-end : tie.Need-add-end
 add-end c = search needs

@@ -1,0 +1,155 @@
+-- From two sequences to the listing of their tiles. Pattern and text are copied to the start of the workspace, so the first state is
+-- theirs; nothing as long as the minimum is left at the end, so what was laid is what the greedy choice lays, and that is the tiling.
+-- Assumes nothing.
+use Prim.Native.Nat.{ℕ, _+_, _-_, _≤_, min}
+use native.Mathlib.Nat.{mul-le-mul-left, mul-one}
+use native.Mathlib.Omega.{arith}
+use mathlib.Core.Path.{_≡_, refl, sym, _∙_, ap, subst}
+use mathlib.Core.Bool.{Bool, true, false}
+use mathlib.Core.List.{List, [], _++_, map, append-assoc, append-nil}
+use borrow.Author.Tests.{leb-true, leb-false}
+use lib.Dec.{leb}
+use lib.ListN.{length, take, drop, length-take, length-map}
+use lib.Seq.{take-at, drop-at}
+use Rattle.symbol.specs.Word.{isCall}
+use Rattle.buffer.specs.Buffer.{onto}
+use Rattle.buffer.proofs.Buffer.{onto-part}
+use Rattle.tiling.specs.Tiling.{start, best, size, lay, tiling}
+use Rattle.tiling.specs.Listing.{firstIsPattern, listing, tileWords, covered}
+use Rattle.tiling.proofs.Tally.{tally-length}
+use Rattle.tiling.proofs.Greedy.{Greedy, done, only}
+use Rattle.tiling.proofs.Tiling.{tiling-greedy}
+use Rattle.tile.specs.Listed.{listed}
+use Rattle.sweep.specs.Workspace.{Space, state}
+use Rattle.sweep.specs.Progress.{Fits, Laid, Finished}
+use Rattle.sweep.specs.declared.Job.{Job}
+use Rattle.sweep.specs.declared.Totals.{Totals}
+use Rattle.ends.specs.Ends.{patternOf, textOf, Opened, noTiles}
+use Rattle.ends.specs.Result.{Checked, Listed}
+
+-- ---- copying in
+pub copied-in : (pattern text ws ws₁ part : List ℕ) → ws₁ ≡ onto pattern ws → part ≡ onto text (take (length pattern + length text - length pattern) (drop (length pattern) ws₁)) → take (length pattern) ws₁ ++ (part ++ drop (length pattern + length text - length pattern) (drop (length pattern) ws₁)) ≡ onto (pattern ++ text) ws
+copied-in pattern text ws ws₁ part e k =
+    let n : length pattern + length text - length pattern ≡ length text = omega arith in
+    rw (k, n, e) (onto-part pattern text ws (length pattern) refl)
+
+-- ---- which sequence is the pattern
+pub pattern-test : (first second : List ℕ) → leb (length first) (length second) ≡ firstIsPattern first second
+unfolding firstIsPattern
+pattern-test first second = refl
+
+module _ (first second : List ℕ) (minimum : ℕ) (b : Bool) (e : b ≡ firstIsPattern first second) (ws ws' : List ℕ) where
+  pub opened-first : b ≡ true → ws' ≡ onto (first ++ second) ws → Opened first second minimum ws (record { n = length first; m = length second; minimum = minimum; straight = true }) ws'
+  unfolding patternOf textOf
+  opened-first k c =
+      let is : firstIsPattern first second ≡ true = sym e ∙ k in
+      record { job = rw (patternOf, textOf, is) refl; copied = rw (patternOf, textOf, is) c }
+
+  pub opened-second : b ≡ false → ws' ≡ onto (second ++ first) ws → Opened first second minimum ws (record { n = length second; m = length first; minimum = minimum; straight = false }) ws'
+  unfolding patternOf textOf
+  opened-second k c =
+      let is : firstIsPattern first second ≡ false = sym e ∙ k in
+      record { job = rw (patternOf, textOf, is) refl; copied = rw (patternOf, textOf, is) c }
+
+module _ (first second : List ℕ) where
+  -- The pattern is the shorter one, and both together have as many words as before.
+  pub record Chosen : Type 0 where
+    pub shorter : length (patternOf first second) ≡ min (length first) (length second)
+    pub together : length (patternOf first second) + length (textOf first second) ≡ length first + length second
+
+  pub chosen-lengths : Chosen
+  unfolding patternOf textOf firstIsPattern
+  chosen-lengths = go (firstIsPattern first second) refl
+    where
+      go : (t : Bool) → firstIsPattern first second ≡ t → Chosen
+      go true e = record { shorter = rw (patternOf, e) (omega (arith, leb-true (length first) (length second) e)); together = rw (patternOf, textOf, e) refl }
+      go false e = record { shorter = rw (patternOf, e) (omega (arith, leb-false (length first) (length second) e)); together = rw (patternOf, textOf, e) (omega arith) }
+
+  -- The listing is the tiling of pattern and text, each tile listed by which of them was first.
+  listing-is : (minimum : ℕ) → listing first second minimum ≡ map (listed (firstIsPattern first second)) (tiling minimum (start (patternOf first second) (textOf first second)))
+  unfolding listing patternOf textOf
+  listing-is minimum = go (firstIsPattern first second) refl
+    where
+      go : (t : Bool) → firstIsPattern first second ≡ t → listing first second minimum ≡ map (listed (firstIsPattern first second)) (tiling minimum (start (patternOf first second) (textOf first second)))
+      go true e = rw (listing, patternOf, textOf, e) refl
+      go false e = rw (listing, patternOf, textOf, e) refl
+
+-- ---- the start
+-- The first state is that of the two sequences.
+copied-state : (pattern text : List ℕ) (j : Job) → j .n ≡ length pattern → j .m ≡ length text → (ws : List ℕ) → state j (onto (pattern ++ text) ws) ≡ start pattern text
+copied-state pattern text j n m ws = λ i. record { pattern = on-pattern i; text = on-text i }
+  where
+    rest : List ℕ
+    rest = drop (length (pattern ++ text)) ws
+
+    whole : (pattern ++ text) ++ rest ≡ pattern ++ (text ++ rest)
+    whole = append-assoc pattern text rest
+
+    on-pattern : take (j .n) (onto (pattern ++ text) ws) ≡ pattern
+    on-pattern = rw whole (take-at pattern (text ++ rest) (j .n) (sym n))
+
+    on-text : take (j .m) (drop (j .n) (onto (pattern ++ text) ws)) ≡ text
+    on-text = rw (whole, drop-at pattern (text ++ rest) (j .n) (sym n)) (take-at text rest (j .m) (sym m))
+
+module _ (first second : List ℕ) (minimum : ℕ) (ws b : List ℕ) (c : Checked (length first) (length second) minimum (length ws) (length b)) where
+  abbrev pattern : List ℕ
+  pattern = patternOf first second
+
+  abbrev text : List ℕ
+  text = textOf first second
+
+  pub open-room : length first + length second ≤ length ws
+  open-room = omega (arith, c .work-room)
+
+  module _ (j : Job) (ws₁ : List ℕ) (o : Opened first second minimum ws j ws₁) where
+    -- Nothing is laid, so everything fits.
+    pub opened-fits : length ws₁ ≡ length ws → Fits j ws₁ b noTiles
+    opened-fits same =
+        let l = chosen-lengths first second in
+        rw (o .job)
+        (record {
+          space = record { short-pattern = omega (arith, l .shorter, c .short-first); short-text = omega (arith, l .shorter, l .together, c .short-first, c .short-second); roomy = omega (arith, l .together, c .work-room, same) };
+          least = c .least;
+          most = c .most;
+          tile-room = rw (l .shorter) (c .tile-room);
+          each = omega arith;
+          free = omega (arith, tally-length isCall (take (length pattern) ws₁), length-take (length pattern) ws₁);
+        })
+
+    first-state : state j ws₁ ≡ start pattern text
+    first-state = ap (state j) (o .copied) ∙ copied-state pattern text j (ap (λ x. x .n) (o .job)) (ap (λ x. x .m) (o .job)) ws
+
+    -- ---- the end
+    nothing-laid : Laid j (start pattern text) b ws₁ b noTiles
+    unfolding tileWords covered
+    nothing-laid =
+        record {
+          tiles = [];
+          rest = λ ls g. subst (λ u. Greedy best size lay (j .minimum) u ls) first-state g;
+          held = refl;
+          counted = refl;
+          summed = refl;
+        }
+
+    pub all-listed : (ws₂ b' : List ℕ) (k : Totals) → Finished j (j .minimum) ws₁ b noTiles ws₂ b' k → Listed (listing first second minimum) b b' k
+    all-listed ws₂ b' k f =
+        let l = f .onward .keeps (start pattern text) b nothing-laid in
+        let least : j .minimum ≡ minimum = ap (λ x. x .minimum) (o .job) in
+        let straight : j .straight ≡ firstIsPattern first second = ap (λ x. x .straight) (o .job) in
+        let g : Greedy best size lay (j .minimum) (start pattern text) (l .tiles ++ []) = l .rest [] (done (f .short)) in
+        let t : l .tiles ≡ tiling minimum (start pattern text) =
+        sym (append-nil (l .tiles)) ∙ only (subst (λ x. Greedy best size lay x (start pattern text) (l .tiles ++ [])) least g) (tiling-greedy minimum (c .least) (start pattern text)) in
+        let all : map (listed (j .straight)) (l .tiles) ≡ listing first second minimum = rw (t, straight) (sym (listing-is first second minimum)) in
+        record {
+          held = rw (← all) (l .held);
+          counted = rw (← all) (l .counted ∙ sym (length-map (l .tiles) (listed (j .straight))));
+          summed = rw (← all) (l .summed);
+        }
+
+-- What was laid is small: each tile has a word or more, and none is covered twice.
+module _ (j : Job) (s : ℕ) (ws₀ b₀ : List ℕ) (k₀ : Totals) (ws b : List ℕ) (k : Totals) (f : Finished j s ws₀ b₀ k₀ ws b k) where
+  pub few-tiles : k .count ≤ 2048
+  few-tiles = omega (arith, mul-le-mul-left (k .count) (f .fits .least), mul-one (k .count), f .fits .each, f .fits .free, f .fits .space .short-pattern)
+
+  pub few-covered : k .covered ≤ 2048
+  few-covered = omega (arith, f .fits .free, f .fits .space .short-pattern)

@@ -1,0 +1,49 @@
+-- The two ends of a comparison: what it starts from, and what it answers. No reader of the engines' contracts needs these.
+use Prim.Native.Nat.{ℕ, _+_}
+use mathlib.Core.Bool.{true, false}
+use mathlib.Core.Path.{_≡_}
+use mathlib.Core.List.{List, _++_}
+use lib.ListN.{length, replicate}
+use Rattle.buffer.specs.Buffer.{onto}
+use Rattle.tiling.specs.Listing.{firstIsPattern, score}
+use Rattle.tiling.specs.declared.Compared.{Compared}
+use Rattle.sweep.specs.declared.Job.{Job}
+use Rattle.sweep.specs.declared.Totals.{Totals}
+
+-- The pattern and the text of two sequences.
+unfoldable pub patternOf : List ℕ → List ℕ → List ℕ
+patternOf first second = elim (firstIsPattern first second) [ true ↦ first | false ↦ second ]
+
+unfoldable pub textOf : List ℕ → List ℕ → List ℕ
+textOf first second = elim (firstIsPattern first second) [ true ↦ second | false ↦ first ]
+
+-- The job of two sequences at a minimum.
+abbrev pub jobOf : List ℕ → List ℕ → ℕ → Job
+jobOf first second minimum =
+    record {
+      n = length (patternOf first second);
+      m = length (textOf first second);
+      minimum = minimum;
+      straight = firstIsPattern first second;
+    }
+
+-- A comparison was opened: its job, and the workspace, which begins with pattern and text.
+pub record Opened (first second : List ℕ) (minimum : ℕ) (ws : List ℕ) (j : Job) (ws' : List ℕ) : Type 0 where
+  pub job : j ≡ jobOf first second minimum
+  pub copied : ws' ≡ onto (patternOf first second ++ textOf first second) ws
+
+-- Nothing is laid yet.
+abbrev pub noTiles : Totals
+noTiles = record { count = 0; covered = 0 }
+
+-- The answer of a refusal, and that of tiles that were laid.
+abbrev pub refusedBy : ℕ → Compared
+refusedBy r = record { refusal = r; tiles = 0; covered = 0; score = 0 }
+
+abbrev pub answerOf : Job → Totals → Compared
+answerOf j k = record { refusal = 0; tiles = k .count; covered = k .covered; score = score (k .covered) (j .n + j .m) }
+
+-- A comparison was closed: its answer, and the workspace, which is zero.
+pub record Closed (j : Job) (k : Totals) (ws : List ℕ) (a : Compared) (ws' : List ℕ) : Type 0 where
+  pub answer : a ≡ answerOf j k
+  pub cleared : ws' ≡ replicate (length ws) 0

@@ -1,0 +1,81 @@
+// The two ends of a comparison, the same for both engines. Before it the pattern is chosen, and both sequences are copied to the
+// workspace; after it the workspace is cleared and the answer made. What lies between goes from one state of the workspace to
+// another and knows nothing of either.
+use sweep::Job;
+use sweep::Totals;
+use tiling::Compared;
+ghost use mathlib.Core.Path.{_≡_};
+ghost use mathlib.Core.List.{_++_};
+ghost use Prim.Native.Nat.{_+_, _≤_};
+ghost use lib.ListN.{length};
+ghost use Rattle.buffer.specs.Buffer.{onto};
+ghost use Rattle.tiling.specs.Listing.{firstIsPattern};
+ghost use Rattle.ends.specs.Ends.{Opened, refusedBy, Closed};
+
+// Whether the first sequence is the pattern: the shorter one is, and of equal lengths the first.
+fn first_is_pattern(first: &[u32], second: &[u32]) -> bool
+    ensures { λ r. ⌜ r ≡ firstIsPattern (now (first .entry)) (now (second .entry)) ⌝ }
+{
+    first.len() <= second.len()
+}
+
+// Puts pattern and text to the start of the workspace.
+fn copy_in(pattern: &[u32], text: &[u32], ws: &mut [u32])
+    requires { ⌜ length (now pattern) + length (now text) ≤ length (now ws) ⌝ }
+    ensures { λ r. ⌜ now (ws .exit) ≡ onto (now (pattern .entry) ++ now (text .entry)) (now (ws .entry)) ⌝ }
+{
+    let n = pattern.len();
+    let end = n + text.len();
+    buffer::copy(pattern, ws);
+    buffer::copy(text, &mut ws[n..end]);
+}
+
+// Chooses the pattern and puts pattern and text to the start of the workspace.
+pub fn open(first: &[u32], second: &[u32], minimum: usize, ws: &mut [u32]) -> Job
+    requires { ⌜ length (now first) + length (now second) ≤ length (now ws) ⌝ }
+    ensures { λ r. ⌜ Opened (now (first .entry)) (now (second .entry)) minimum (now (ws .entry)) r (now (ws .exit)) ⌝ }
+{
+    if first_is_pattern(first, second) {
+        copy_in(first, second, ws);
+        return Job {
+            n: first.len(),
+            m: second.len(),
+            minimum,
+            straight: true,
+        };
+    }
+    copy_in(second, first, ws);
+    Job {
+        n: second.len(),
+        m: first.len(),
+        minimum,
+        straight: false,
+    }
+}
+
+// The answer of a comparison that is refused.
+pub fn refused(refusal: u32) -> Compared
+    ensures { λ r. ⌜ r ≡ refusedBy refusal ⌝ }
+{
+    Compared {
+        refusal,
+        tiles: 0,
+        covered: 0,
+        score: 0,
+    }
+}
+
+// Clears the whole workspace and answers what the tiles come to.
+pub fn close(ws: &mut [u32], job: Job, totals: Totals) -> Compared
+    requires { ⌜ (totals .count ≤ 2048) × (totals .covered ≤ 2048) × (job .n ≤ 2048) × (job .m ≤ 2048) ⌝ }
+    ensures { λ r. ⌜ Closed job totals (now (ws .entry)) r (now (ws .exit)) ⌝ }
+{
+    let words = ws.len();
+    tile::mark_words(ws, 0, words);
+    Compared {
+        refusal: 0,
+        tiles: totals.count as u32,
+        covered: totals.covered as u32,
+        score: tile::score_of(totals.covered, job.n + job.m),
+    }
+}

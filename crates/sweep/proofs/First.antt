@@ -1,0 +1,30 @@
+-- Looking for the first number that has a property, one number after another.
+-- Assumes nothing.
+use Prim.Native.Nat.{ℕ, _+_, _≤_, _<_}
+use native.Mathlib.Decide.{ℕ-discrete}
+use native.Mathlib.Omega.{arith}
+use mathlib.Core.Path.{_≡_}
+use Rattle.sweep.specs.First.{First}
+
+-- None of the numbers from `from` up to i has the property.
+pub record Passing (Q : ℕ → Type 0) (from n i : ℕ) : Type 0 where
+  pub least : from ≤ i
+  pub within : i ≤ n
+  pub none : (k : ℕ) → from ≤ k → k < i → Q k → ⊥
+
+pub passing-none : (Q : ℕ → Type 0) (from n : ℕ) → from ≤ n → Passing Q from n from
+passing-none Q from n h = record { least = omega arith; within = h; none = λ k a b q. absurd (omega arith) }
+
+module _ (Q : ℕ → Type 0) (from n i : ℕ) (r : Passing Q from n i) where
+  pub passing-more : i < n → (Q i → ⊥) → Passing Q from n (i + 1)
+  passing-more h d = record { least = omega (arith, r .least); within = omega arith; none = λ k a b. none k a b (ℕ-discrete k i) }
+    where
+      none : (k : ℕ) → from ≤ k → k < i + 1 → Dec (k ≡ i) → Q k → ⊥
+      none k a b (yes e) = rw e d
+      none k a b (no l) = r .none k a (omega (arith, l))
+
+  pub first-none : n ≤ i → First Q from n i
+  first-none h = record { least = r .least; within = r .within; none = r .none; stops = λ l. absurd (omega arith) }
+
+  pub first-at : Q i → First Q from n i
+  first-at q = record { least = r .least; within = r .within; none = r .none; stops = λ l. q }
