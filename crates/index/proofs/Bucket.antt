@@ -17,6 +17,10 @@ bucket-is k h = refl
 pub bucket-small : (k h : ℕ) → 1 ≤ k → k ≤ 1024 → h % k < 1024
 bucket-small k h a b = omega (arith, mod-lt h a)
 
+pub bucket-below : (k h : ℕ) → 1 ≤ k → k ≤ 1024 → bucket k h < 1024
+unfolding bucket
+bucket-below k h a b = bucket-small k h a b
+
 pub bucket-fits : (k h : ℕ) → 1 ≤ k → k ≤ 1024 → h % k < 2 ^ 64
 bucket-fits k h a b = omega (arith, mod-lt h a)
 

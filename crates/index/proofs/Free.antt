@@ -17,7 +17,7 @@ use Rattle.tiling.proofs.Run.{run-match, run-least, run-within}
 use Rattle.sweep.specs.Workspace.{Space, state}
 use Rattle.sweep.specs.declared.Job.{Job}
 use Rattle.sweep.proofs.Workspace.{text-length}
-use Rattle.index.specs.Linking.{freeAt}
+use Rattle.index.specs.Built.{freeAt}
 
 run-free : (ps ts : List ℕ) → run ps ts ≤ run ts ts
 run-free ps ts =

@@ -1,4 +1,5 @@
 pub mod Bucket
+pub mod First
 pub mod Kept
 pub mod Free
 pub mod Linking

@@ -1,241 +1,208 @@
--- One position after another, from right to left. The head of a bucket is the nearest free window of that bucket, or one that is no window, so
--- a link that takes it over steps over none; and where the window at t is free it becomes the head.
+-- One position after another, from right to left. The head of a bucket is its first free window from here on; so a link that takes it over
+-- is the next one after this, and where the window at t is free it becomes the head.
 -- Assumes nothing.
 use Prim.Native.Nat.{ℕ, _+_, _-_, _≤_, _<_}
-use native.Mathlib.Decide.{decLt, ℕ-discrete}
+use native.Mathlib.Nat.{mod-lt}
+use native.Mathlib.Decide.{decLt, decLe, ℕ-discrete}
 use native.Mathlib.Omega.{arith}
-use mathlib.Core.Path.{_≡_, refl, sym, _∙_, ap, subst}
+use mathlib.Core.Path.{_≡_, refl, sym, _∙_, ap}
 use mathlib.Core.Bool.{Bool, true, false}
 use mathlib.Core.List.{List}
-use lib.ListN.{length, getD, set, length-set, List·getD-eq-default}
+use borrow.Author.Tests.{lt-ltb, le-ltb, le-leb, lt-leb, eq-eqb, ne-eqb}
+use lib.ListN.{length, getD, set, length-set, replicate, getD-replicate, List·getD-eq-default}
 use lib.Seq.{getD-set-same, getD-set-other}
-use Rattle.tiling.specs.Tiling.{State, runAt}
 use Rattle.window.specs.Hash.{bucket}
-use Rattle.sweep.specs.Workspace.{state, boundsFrom}
+use Rattle.sweep.specs.Workspace.{Space, state, boundsFrom}
 use Rattle.sweep.specs.declared.Job.{Job}
 use Rattle.sweep.proofs.Workspace.{state-set, space-kept}
-use Rattle.index.specs.Indexed.{patternHash, textHash, link, slot, Built}
-use Rattle.index.specs.Linking.{freeAt, Linking}
-use Rattle.index.proofs.Kept.{row-inside, column-inside}
-use Rattle.index.proofs.Free.{free-run, free-end, free-inside, free-same}
+use Rattle.index.specs.Indexed.{patternHash, textHash, link, slot, Ranges}
+use Rattle.index.specs.Built.{freeAt, inBucket, nextIn, unless, Entered, Linked}
+use Rattle.index.specs.declared.Pass.{Pass}
+use Rattle.index.proofs.Bucket.{bucket-below}
+use Rattle.index.proofs.First.{first-least, first-same, next-here, next-later, next-none}
+use Rattle.index.proofs.Free.{free-end, free-inside, free-same}
 
--- ---- the link at t
-module _ (j : Job) (s k : ℕ) (ws heads : List ℕ) (seen : List Bool) (t h b : ℕ) (l : Linking j s k ws heads seen (t + 1) (t + 1)) (inside : t < j .m) (eh : h ≡ textHash j ws t) (eb : b ≡ bucket k h) (small : b < 1024) where
-  abbrev after : List ℕ
-  after = set ws (boundsFrom j + j .n + t) (getD heads b 0)
+-- ---- one window, as the code goes through it
+module _ (x : Pass) (t free : ℕ) (ws hs : List ℕ) (fs : List Bool) (h b : ℕ) (eh : h ≡ textHash (x .job) ws t) (eb : b ≡ bucket (x .buckets) h) (ws' : List ℕ) (ew : ws' ≡ set ws (boundsFrom (x .job) + x .job .n + t) (getD hs b 0)) where
+  at-bucket : b ≡ bucket (x .buckets) (textHash (x .job) ws t)
+  at-bucket = eb ∙ ap (bucket (x .buckets)) eh
 
-  at-bucket : b ≡ bucket k (textHash j ws t)
-  at-bucket = eb ∙ ap (bucket k) eh
+  words : ws' ≡ set ws (boundsFrom (x .job) + x .job .n + t) (getD hs (bucket (x .buckets) (textHash (x .job) ws t)) 0)
+  words = rw (← at-bucket) ew
 
-  same-state : state j after ≡ state j ws
-  same-state =
-      let e : boundsFrom j + j .n + t ≡ boundsFrom j + (j .n + t) = omega arith in
-      rw e (state-set j ws (j .n + t) (getD heads b 0))
+  -- A window that is not free is left out.
+  pub entered-not : free < x .s → Entered x t free ws hs fs ws' hs fs
+  entered-not less = record { words = words; heads = rw (lt-ltb free (x .s) less) refl; filter = rw (lt-ltb free (x .s) less) refl; known = λ l. absurd (omega arith) }
 
-  same-pattern : (p : ℕ) → p < j .n → patternHash j after p ≡ patternHash j ws p
-  same-pattern p d = getD-set-other ws (boundsFrom j + j .n + t) (j .n + j .m + p) (getD heads b 0) 0 (λ e. omega arith)
-
-  same-text : (u : ℕ) → u < j .m → textHash j after u ≡ textHash j ws u
-  same-text u d = getD-set-other ws (boundsFrom j + j .n + t) (j .n + j .m + j .n + u) (getD heads b 0) 0 (λ e. omega arith)
-
-  link-here : link j after t ≡ getD heads b 0
-  link-here = getD-set-same ws (boundsFrom j + j .n + t) (getD heads b 0) 0 (omega (arith, l .space .roomy))
-
-  link-there : (w : ℕ) → (w ≡ t → ⊥) → link j after w ≡ link j ws w
-  link-there w d = getD-set-other ws (boundsFrom j + j .n + t) (boundsFrom j + j .n + w) (getD heads b 0) 0 (λ e. d (omega arith))
-
-  was-free : (u : ℕ) → s ≤ freeAt j after u → s ≤ freeAt j ws u
-  was-free u f = omega (arith, f, free-same j ws after u same-state)
-
-  in-text : (u : ℕ) → s ≤ freeAt j after u → u < j .m
-  in-text u f = free-inside j after u (omega (arith, f, l .least))
-
-  -- The head of its bucket steps over no free window of that bucket.
-  head-before : (u : ℕ) → t < u → s ≤ freeAt j ws u → bucket k (textHash j ws t) ≡ bucket k (textHash j ws u) → getD heads b 0 ≤ u
-  head-before u less f e =
-      let same : getD heads b 0 ≡ getD heads (bucket k (textHash j ws u)) 0 = ap (λ x. getD heads x 0) (at-bucket ∙ e) in
-      omega (arith, same, l .head u (omega arith) f)
-
-  linked : Linking j s k after heads seen t (t + 1)
-  linked =
+  pub entered-new : x .s ≤ free → (hs' : List ℕ) (fs' : List Bool) → hs' ≡ set hs b t → fs' ≡ set fs (slot h) true → getD fs' (slot h) false ≡ true → Entered x t free ws hs fs ws' hs' fs'
+  entered-new long hs' fs' eh' ef' known =
       record {
-        space = space-kept j ws after (length-set ws (boundsFrom j + j .n + t) (getD heads b 0)) (l .space);
-        least = l .least;
-        kin = λ p u r.
-            let c : 1 ≤ runAt (state j after) p u = omega (arith, r, l .least) in
-            rw (same-text u (column-inside j after p u c), same-pattern p (row-inside j after p u c))
-            (l .kin p u (subst (λ (x : State). s ≤ runAt x p u) same-state r));
-        known = λ u g f. rw (same-text u (in-text u f)) (l .known u g (was-free u f));
-        head = λ u g f. rw (same-text u (in-text u f)) (l .head u g (was-free u f));
-        head-bucket = λ c d e. rw (same-text (getD heads c 0) e) (l .head-bucket c d e);
-        ahead = l .ahead;
-        next = λ u w g d f e.
-            next u w g d (was-free u f) (rw (same-text w (omega (arith, d, in-text u f)), same-text u (in-text u f)) at e) (ℕ-discrete w t);
-        link-bucket = λ w g d e. link-bucket w g d e (ℕ-discrete w t);
-        rising = λ w g d. rising w g d (ℕ-discrete w t);
+        words = words;
+        heads = rw (le-ltb free (x .s) long, ← at-bucket) eh';
+        filter = rw (le-ltb free (x .s) long, ← eh) ef';
+        known = λ l. rw (← eh) known;
       }
-    where
-      next : (u w : ℕ) → t ≤ w → w < u → s ≤ freeAt j ws u → bucket k (textHash j ws w) ≡ bucket k (textHash j ws u) → Dec (w ≡ t) → link j after w ≤ u
-      next u w g d f e (yes z) = rw z (omega (arith, link-here, head-before u (omega (arith, z)) f (rw z at e)))
-      next u w g d f e (no z) = omega (arith, link-there w z, l .next u w (omega (arith, z)) d f e)
 
-      link-bucket : (w : ℕ) → t ≤ w → w < j .m → link j after w < j .m → Dec (w ≡ t) → bucket k (textHash j after (link j after w)) ≡ bucket k (textHash j after w)
-      link-bucket w g d e (yes z) =
-          let c : getD heads b 0 < j .m = omega (arith, rw z at e, link-here) in
-          rw (z, link-here, same-text (getD heads b 0) c, same-text t inside) (l .head-bucket b small c ∙ at-bucket)
-      link-bucket w g d e (no z) =
-          let c : link j ws w < j .m = omega (arith, e, link-there w z) in
-          rw (link-there w z, same-text (link j ws w) c, same-text w d) (l .link-bucket w (omega (arith, z)) d c)
-
-      rising : (w : ℕ) → t ≤ w → w < j .m → Dec (w ≡ t) → w < link j after w
-      rising w g d (yes z) = rw z (omega (arith, link-here, l .ahead b small))
-      rising w g d (no z) = omega (arith, link-there w z, l .rising w (omega (arith, z)) d)
-
--- ---- the head of its bucket
--- A window that is not free is left out.
-module _ (j : Job) (s k : ℕ) (ws heads : List ℕ) (seen : List Bool) (t : ℕ) (l : Linking j s k ws heads seen t (t + 1)) where
-  left-out : freeAt j ws t < s → Linking j s k ws heads seen t t
-  left-out f =
-      record {
-        space = l .space;
-        least = l .least;
-        kin = l .kin;
-        known = λ u g d. l .known u (later u g d) d;
-        head = λ u g d. l .head u (later u g d) d;
-        head-bucket = l .head-bucket;
-        ahead = λ b d. omega (arith, l .ahead b d);
-        next = l .next;
-        link-bucket = l .link-bucket;
-        rising = l .rising;
-      }
-    where
-      later : (u : ℕ) → t ≤ u → s ≤ freeAt j ws u → t + 1 ≤ u
-      later u g d = go (ℕ-discrete u t)
-        where
-          go : Dec (u ≡ t) → t + 1 ≤ u
-          go (yes z) = absurd (omega (arith, f, rw z at d))
-          go (no z) = omega (arith, z)
-
-  -- A free one becomes the head, and its hash is known.
-  module _ (h b : ℕ) (inside : t < j .m) (eh : h ≡ textHash j ws t) (eb : b ≡ bucket k h) (small : b < 1024) (known-here : getD (set seen (slot h) true) (slot h) false ≡ true) where
-    here : bucket k (textHash j ws t) ≡ b
-    here = sym (eb ∙ ap (bucket k) eh)
-
-    head-here : getD (set heads b t) b 0 ≡ t
-    head-here = getD-set-same heads b t 0 (go (decLt b (length heads)))
-      where
-        go : Dec (b < length heads) → b < length heads
-        go (yes z) = z
-        go (no z) = let e : getD heads b 0 ≡ 0 = List·getD-eq-default heads 0 {n = b} (omega (arith, z)) in absurd (omega (arith, e, l .ahead b small))
-
-    head-there : (c : ℕ) → (c ≡ b → ⊥) → getD (set heads b t) c 0 ≡ getD heads c 0
-    head-there c d = getD-set-other heads b c t 0 d
-
-    still-known : (i : ℕ) → getD seen i false ≡ true → getD (set seen (slot h) true) i false ≡ true
-    still-known i e = go (ℕ-discrete i (slot h))
-      where
-        go : Dec (i ≡ slot h) → getD (set seen (slot h) true) i false ≡ true
-        go (yes z) = rw z known-here
-        go (no z) = getD-set-other seen (slot h) i true false z ∙ e
-
-    entered : Linking j s k ws (set heads b t) (set seen (slot h) true) t t
-    entered =
-        record {
-          space = l .space;
-          least = l .least;
-          kin = l .kin;
-          known = λ u g d. known u g d (ℕ-discrete u t);
-          head = λ u g d. head u g d (ℕ-discrete u t) (ℕ-discrete (bucket k (textHash j ws u)) b);
-          head-bucket = λ c d e. head-bucket c d e (ℕ-discrete c b);
-          ahead = λ c d. ahead c d (ℕ-discrete c b);
-          next = l .next;
-          link-bucket = l .link-bucket;
-          rising = l .rising;
-        }
-      where
-        known : (u : ℕ) → t ≤ u → s ≤ freeAt j ws u → Dec (u ≡ t) → getD (set seen (slot h) true) (slot (textHash j ws u)) false ≡ true
-        known u g d (yes z) = rw (z, ← eh) known-here
-        known u g d (no z) = still-known (slot (textHash j ws u)) (l .known u (omega (arith, z)) d)
-
-        head : (u : ℕ) → t ≤ u → s ≤ freeAt j ws u → Dec (u ≡ t) → Dec (bucket k (textHash j ws u) ≡ b) → getD (set heads b t) (bucket k (textHash j ws u)) 0 ≤ u
-        head u g d c (yes z) = rw z (omega (arith, head-here))
-        head u g d (yes c) (no z) = absurd (z (rw c here))
-        head u g d (no c) (no z) = omega (arith, head-there (bucket k (textHash j ws u)) z, l .head u (omega (arith, c)) d)
-
-        head-bucket : (c : ℕ) → c < 1024 → getD (set heads b t) c 0 < j .m → Dec (c ≡ b) → bucket k (textHash j ws (getD (set heads b t) c 0)) ≡ c
-        head-bucket c d e (yes z) = rw (z, head-here) here
-        head-bucket c d e (no z) = rw (head-there c z) (l .head-bucket c d (omega (arith, e, head-there c z)))
-
-        ahead : (c : ℕ) → c < 1024 → Dec (c ≡ b) → t ≤ getD (set heads b t) c 0
-        ahead c d (yes z) = rw z (omega (arith, head-here))
-        ahead c d (no z) = omega (arith, head-there c z, l .ahead c d)
-
--- ---- one position, as the code goes through it
-module _ (j : Job) (s k : ℕ) (ws ws' heads : List ℕ) (seen : List Bool) (t h b free : ℕ) (l : Linking j s k ws heads seen (t + 1) (t + 1)) (inside : t < j .m) (f : free ≡ freeAt j ws t) (eh : h ≡ textHash j ws t) (eb : b ≡ bucket k h) (small : b < 1024) (ew : ws' ≡ set ws (boundsFrom j + j .n + t) (getD heads b 0)) where
-  pub state-linked : state j ws' ≡ state j ws
-  state-linked = rw ew (same-state j s k ws heads seen t h b l inside eh eb small)
-
-  now-linked : Linking j s k ws' heads seen t (t + 1)
-  now-linked = subst (λ x. Linking j s k x heads seen t (t + 1)) (sym ew) (linked j s k ws heads seen t h b l inside eh eb small)
-
-  pub linking-skip : free < s → Linking j s k ws' heads seen t t
-  linking-skip less = left-out j s k ws' heads seen t now-linked (omega (arith, f, less, free-same j ws ws' t state-linked))
-
-  pub linking-enter : (heads' : List ℕ) (seen' : List Bool) → heads' ≡ set heads b t → seen' ≡ set seen (slot h) true → getD seen' (slot h) false ≡ true → Linking j s k ws' heads' seen' t t
-  linking-enter heads' seen' a c d =
-      let e : h ≡ textHash j ws' t = eh ∙ rw ew (sym (same-text j s k ws heads seen t h b l inside eh eb small t inside)) in
-      rw (a, c) (entered j s k ws' heads seen t now-linked h b inside e eb small (rw c at d))
-
--- ---- all positions
-pub record Backward (j : Job) (s k : ℕ) (ws₀ ws heads : List ℕ) (seen : List Bool) (t free : ℕ) : Type 0 where
-  pub within : t ≤ j .m
+-- ---- all of them
+pub record Backward (x : Pass) (ws₀ ws hs : List ℕ) (fs : List Bool) (t free : ℕ) : Type 0 where
+  pub within : t ≤ x .job .m
+  pub ranges : Ranges x
+  pub space : Space (x .job) ws
   pub room : length ws ≡ length ws₀
-  pub same : state j ws ≡ state j ws₀
-  pub linking : Linking j s k ws heads seen t t
-  pub count : free ≡ freeAt j ws t
+  pub same : state (x .job) ws ≡ state (x .job) ws₀
+  pub on-pattern : (p : ℕ) → p < x .job .n → patternHash (x .job) ws p ≡ patternHash (x .job) ws₀ p
+  pub on-text : (u : ℕ) → u < x .job .m → textHash (x .job) ws u ≡ textHash (x .job) ws₀ u
+  pub heads : (b : ℕ) → b < 1024 → getD hs b 0 ≡ nextIn x ws₀ b t
+  pub links : (u : ℕ) → t ≤ u → u < x .job .m → link (x .job) ws u ≡ nextIn x ws₀ (bucket (x .buckets) (textHash (x .job) ws₀ u)) (u + 1)
+  pub known : (u : ℕ) → t ≤ u → x .s ≤ freeAt (x .job) ws₀ u → getD fs (slot (textHash (x .job) ws₀ u)) false ≡ true
+  pub count : free ≡ freeAt (x .job) ws t
 
-pub backward-none : (j : Job) (s k : ℕ) (ws heads : List ℕ) (seen : List Bool) → Linking j s k ws heads seen (j .m) (j .m) → Backward j s k ws ws heads seen (j .m) 0
-backward-none j s k ws heads seen l = record { within = omega arith; room = refl; same = refl; linking = l; count = free-end j ws }
+pub backward-none : (x : Pass) (ws hs : List ℕ) (fs : List Bool) → Space (x .job) ws → Ranges x → hs ≡ replicate 1024 2048 → Backward x ws ws hs fs (x .job .m) 0
+backward-none x ws hs fs space ranges fresh =
+    record {
+      within = omega arith;
+      ranges = ranges;
+      space = space;
+      room = refl;
+      same = refl;
+      on-pattern = λ p l. refl;
+      on-text = λ u l. refl;
+      heads = λ b l. rw fresh (getD-replicate {A = ℕ} 1024 b 2048 0 l) ∙ sym (next-none (inBucket x ws b) (x .job .m));
+      links = λ u a b. absurd (omega arith);
+      known = λ u a f. absurd (omega (arith, free-inside (x .job) ws u (omega (arith, f, ranges .one))));
+      count = free-end (x .job) ws;
+    }
 
-module _ (j : Job) (s k : ℕ) (ws₀ ws heads : List ℕ) (seen : List Bool) (t free : ℕ) (inv : Backward j s k ws₀ ws heads seen t free) where
+-- The step to position t, where the windows from the next one on are linked.
+module _ (x : Pass) (ws₀ ws hs : List ℕ) (fs : List Bool) (t after free : ℕ) (i : Backward x ws₀ ws hs fs (t + 1) after) (inside : t < x .job .m) (f : free ≡ freeAt (x .job) ws t) (ws' hs' : List ℕ) (fs' : List Bool) (e : Entered x t free ws hs fs ws' hs' fs') where
+  abbrev j : Job
+  j = x .job
+
+  abbrev b : ℕ
+  b = bucket (x .buckets) (textHash j ws t)
+
+  abbrev at : ℕ
+  at = boundsFrom j + j .n + t
+
+  same-bucket : b ≡ bucket (x .buckets) (textHash j ws₀ t)
+  same-bucket = ap (bucket (x .buckets)) (i .on-text t inside)
+
+  small : b < 1024
+  small = bucket-below (x .buckets) (textHash j ws t) (i .ranges .some-bucket) (i .ranges .few-buckets)
+
+  free-here : free ≡ freeAt j ws₀ t
+  free-here = f ∙ free-same j ws₀ ws t (i .same)
+
+  elsewhere : (k : ℕ) → (k ≡ at → ⊥) → getD ws' k 0 ≡ getD ws k 0
+  elsewhere k d = rw (e .words) (getD-set-other ws at k (getD hs b 0) 0 d)
+
+  link-here : link j ws' t ≡ nextIn x ws₀ (bucket (x .buckets) (textHash j ws₀ t)) (t + 1)
+  link-here = rw (e .words) (getD-set-same ws at (getD hs b 0) 0 (omega (arith, i .space .roomy))) ∙ (i .heads b small ∙ ap (λ c. nextIn x ws₀ c (t + 1)) same-bucket)
+
+  links : (u : ℕ) → t ≤ u → u < j .m → Dec (u ≡ t) → link j ws' u ≡ nextIn x ws₀ (bucket (x .buckets) (textHash j ws₀ u)) (u + 1)
+  links u a l (yes k) = rw k link-here
+  links u a l (no k) = elsewhere (boundsFrom j + j .n + u) (λ z. k (omega arith)) ∙ i .links u (omega (arith, k)) l
+
+  -- A window that is not free, and one in another bucket, changes no head of a bucket.
+  not-free : free < x .s → (c : ℕ) → inBucket x ws₀ c t ≡ false
+  not-free less c = rw (lt-leb (x .s) (freeAt j ws₀ t) (omega (arith, free-here))) refl
+
+  other-bucket : x .s ≤ free → (c : ℕ) → (c ≡ b → ⊥) → inBucket x ws₀ c t ≡ false
+  other-bucket long c d =
+      rw (le-leb (x .s) (freeAt j ws₀ t) (omega (arith, free-here)), ne-eqb (bucket (x .buckets) (textHash j ws₀ t)) c (λ z. d (sym z ∙ sym same-bucket))) refl
+
+  this-bucket : x .s ≤ free → inBucket x ws₀ b t ≡ true
+  this-bucket long =
+      rw (le-leb (x .s) (freeAt j ws₀ t) (omega (arith, free-here)), eq-eqb (bucket (x .buckets) (textHash j ws₀ t)) b (sym same-bucket)) refl
+
+  long-heads : b < length hs
+  long-heads = go (decLt b (length hs))
+    where
+      go : Dec (b < length hs) → b < length hs
+      go (yes z) = z
+      go (no z) =
+          let none : getD hs b 0 ≡ 0 = List·getD-eq-default hs 0 {n = b} (omega (arith, z)) in
+          absurd (omega (arith, none, i .heads b small, first-least (inBucket x ws₀ b) (t + 1) (j .m - (t + 1)) (omega (arith, i .space .short-text))))
+
+  heads : Dec (free < x .s) → (c : ℕ) → c < 1024 → Dec (c ≡ b) → getD hs' c 0 ≡ nextIn x ws₀ c t
+  heads (yes less) c l d =
+      rw (e .heads, lt-ltb free (x .s) less) (i .heads c l ∙ sym (next-later (inBucket x ws₀ c) t (j .m) inside (not-free less c)))
+  heads (no long) c l (yes d) =
+      let k : x .s ≤ free = omega (arith, long) in
+      rw (e .heads, le-ltb free (x .s) k, d) (getD-set-same hs b t 0 long-heads ∙ sym (next-here (inBucket x ws₀ b) t (j .m) inside (this-bucket k)))
+  heads (no long) c l (no d) =
+      let k : x .s ≤ free = omega (arith, long) in
+      rw (e .heads, le-ltb free (x .s) k)
+      (getD-set-other hs b c t 0 d ∙ (i .heads c l ∙ sym (next-later (inBucket x ws₀ c) t (j .m) inside (other-bucket k c d))))
+
+  still-known : (k : ℕ) → Dec (free < x .s) → getD fs k false ≡ true → getD fs' k false ≡ true
+  still-known k (yes less) z = rw (e .filter, lt-ltb free (x .s) less) z
+  still-known k (no long) z = go (ℕ-discrete k (slot (textHash j ws t)))
+    where
+      l : x .s ≤ free
+      l = omega (arith, long)
+
+      go : Dec (k ≡ slot (textHash j ws t)) → getD fs' k false ≡ true
+      go (yes d) = rw d (e .known l)
+      go (no d) = rw (e .filter, le-ltb free (x .s) l) (getD-set-other fs (slot (textHash j ws t)) k true false d ∙ z)
+
+  known : (u : ℕ) → t ≤ u → x .s ≤ freeAt j ws₀ u → Dec (u ≡ t) → getD fs' (slot (textHash j ws₀ u)) false ≡ true
+  known u a l (yes k) = rw (k, ← i .on-text t inside) (e .known (omega (arith, free-here, rw k at l)))
+  known u a l (no k) = still-known (slot (textHash j ws₀ u)) (decLt free (x .s)) (i .known u (omega (arith, k)) l)
+
+  state-linked : state j ws' ≡ state j ws
+  state-linked =
+      let k : at ≡ boundsFrom j + (j .n + t) = omega arith in
+      rw (e .words, k) (state-set j ws (j .n + t) (getD hs b 0))
+
+  stepped : length ws' ≡ length ws → Backward x ws₀ ws' hs' fs' t free
+  stepped same =
+      record {
+        within = omega arith;
+        ranges = i .ranges;
+        space = space-kept j ws ws' same (i .space);
+        room = same ∙ i .room;
+        same = state-linked ∙ i .same;
+        on-pattern = λ p l. elsewhere (j .n + j .m + p) (λ z. omega arith) ∙ i .on-pattern p l;
+        on-text = λ u l. elsewhere (j .n + j .m + j .n + u) (λ z. omega arith) ∙ i .on-text u l;
+        heads = λ c l. heads (decLt free (x .s)) c l (ℕ-discrete c b);
+        links = λ u a l. links u a l (ℕ-discrete u t);
+        known = λ u a l. known u a l (ℕ-discrete u t);
+        count = f ∙ sym (free-same j ws ws' t state-linked);
+      }
+
+module _ (x : Pass) (ws₀ ws hs : List ℕ) (fs : List Bool) (t free : ℕ) (i : Backward x ws₀ ws hs fs t free) where
   module _ (some : 0 < t) where
     back : t - 1 + 1 ≡ t
     back = omega arith
 
-    pub backward-inside : t - 1 < j .m
-    backward-inside = omega (arith, inv .within)
+    pub backward-inside : t - 1 < x .job .m
+    backward-inside = omega (arith, i .within)
 
-    pub backward-free : free ≡ freeAt j ws (t - 1 + 1)
-    backward-free = rw back (inv .count)
+    pub backward-free : free ≡ freeAt (x .job) ws (t - 1 + 1)
+    backward-free = rw back (i .count)
 
-    pub backward-link : Linking j s k ws heads seen (t - 1 + 1) (t - 1 + 1)
-    backward-link = rw back (inv .linking)
+    pub backward-more : (r : ℕ) → r ≡ freeAt (x .job) ws (t - 1) → (ws' hs' : List ℕ) (fs' : List Bool) → Entered x (t - 1) r ws hs fs ws' hs' fs' → length ws' ≡ length ws → Backward x ws₀ ws' hs' fs' (t - 1) r
+    backward-more r f ws' hs' fs' e same =
+        let now : Backward x ws₀ ws hs fs (t - 1 + 1) free = rw back i in
+        stepped x ws₀ ws hs fs (t - 1) free r now backward-inside f ws' hs' fs' e same
 
-    pub backward-more : (ws' heads' : List ℕ) (seen' : List Bool) (r : ℕ) → r ≡ freeAt j ws (t - 1) → length ws' ≡ length ws → Linking j s k ws' heads' seen' (t - 1) (t - 1) → state j ws' ≡ state j ws → Backward j s k ws₀ ws' heads' seen' (t - 1) r
-    backward-more ws' heads' seen' r e n l c =
-        record {
-          within = omega (arith, inv .within);
-          room = n ∙ inv .room;
-          same = c ∙ inv .same;
-          linking = l;
-          count = e ∙ sym (free-same j ws ws' (t - 1) c);
-        }
+  -- The first free windows are told by the words and hashes, which are as they were.
+  same-next : (b u : ℕ) → nextIn x ws₀ b u ≡ nextIn x ws b u
+  same-next b u =
+      first-same (inBucket x ws₀ b) (inBucket x ws b) u (x .job .m - u)
+      (λ k a l. rw (free-same (x .job) ws₀ ws k (i .same), i .on-text k (omega arith)) refl)
 
-  pub backward-all : t ≤ 0 → Built j s k ws₀ ws heads seen
+  pub backward-all : t ≤ 0 → Linked x ws₀ ws hs fs
   backward-all none =
-      let l : Linking j s k ws heads seen 0 0 = let z : t ≡ 0 = omega arith in rw z at (inv .linking) in
-      let free : (p u : ℕ) → s ≤ runAt (state j ws) p u → s ≤ freeAt j ws u = (λ p u h. omega (arith, h, free-run j ws p u)) in
+      let z : t ≡ 0 = omega arith in
       record {
-        same = inv .same;
-        indexed =
-            record {
-              least = l .least;
-              kin = l .kin;
-              known = λ p u h. rw (← l .kin p u h) (l .known u (omega arith) (free p u h));
-              head = λ p u h. rw (← l .kin p u h) (l .head u (omega arith) (free p u h));
-              next = λ p u v h d e. l .next u v (omega arith) d (free p u h) (e ∙ ap (bucket k) (sym (l .kin p u h)));
-              head-bucket = l .head-bucket;
-              link-bucket = λ v d e. l .link-bucket v (omega arith) d e;
-              rising = λ v d. l .rising v (omega arith) d;
-            };
+        space = i .space;
+        same = i .same;
+        on-pattern = i .on-pattern;
+        on-text = i .on-text;
+        heads = λ b l. i .heads b l ∙ (ap (nextIn x ws₀ b) z ∙ same-next b 0);
+        links = λ u l. rw (i .on-text u l) (i .links u (omega arith) l ∙ same-next (bucket (x .buckets) (textHash (x .job) ws₀ u)) (u + 1));
+        known = λ u f. let l = free-inside (x .job) ws u (omega (arith, f, i .ranges .one)) in
+            rw (i .on-text u l) (i .known u (omega arith) (omega (arith, f, free-same (x .job) ws₀ ws u (i .same))));
       }

@@ -1,12 +1,15 @@
--- The window hashes of pattern and text. Where a run of s words begins the two windows are the same words, and so have the same hash. The two
--- sequences stand side by side, so that the hashes of all their windows are one list; a window that straddles is never asked about.
+-- The hashes of a pass and what the search may go by. The two sequences stand side by side, so that the hashes of all their windows are one
+-- list; a window that straddles is never asked about. Where a run of s words begins, the two windows are the same words and so have the
+-- same hash, and the window of the text is free; so no walk along its bucket steps over it.
 -- Assumes nothing.
 use Prim.Native.Nat.{ℕ, _+_, _-_, _≤_, _<_}
 use native.Mathlib.Omega.{arith}
-use mathlib.Core.Path.{_≡_, sym, _∙_, ap, subst}
-use mathlib.Core.Bool.{Bool}
+use mathlib.Core.Path.{_≡_, refl, sym, _∙_, ap, subst}
+use mathlib.Core.Bool.{Bool, true, false, _&&_}
 use mathlib.Core.List.{List, _++_}
-use lib.ListN.{length, take, drop, getD, length-drop, length-append, replicate, getD-replicate, List·getD-append}
+use borrow.Author.Tests.{le-leb, eq-eqb, eqb-true}
+use lib.Dec.{leb, eqb}
+use lib.ListN.{length, take, drop, getD, length-drop, length-append, List·getD-append}
 use lib.Seq.{length-take-le, take-take, take-add, drop-at, take-at, getD-append-add, getD-take, take-append-le, drop-append-le, drop-append-add, ext-getD}
 use Rattle.symbol.proofs.Word.{match-equal}
 use Rattle.buffer.specs.Buffer.{onto}
@@ -14,15 +17,19 @@ use Rattle.buffer.proofs.Buffer.{length-onto}
 use Rattle.tiling.specs.Run.{run}
 use Rattle.tiling.specs.Tiling.{State, runAt}
 use Rattle.tiling.proofs.Run.{run-match, run-within}
-use Rattle.window.specs.Hash.{hash}
-use Rattle.window.specs.HashList.{hashes}
+use Rattle.window.specs.Hash.{hash, bucket}
+use Rattle.window.specs.HashList.{hashes, hashAt}
 use Rattle.window.proofs.HashList.{length-hashes, getD-hashes}
 use Rattle.sweep.specs.Workspace.{Space, state}
 use Rattle.sweep.specs.declared.Job.{Job}
-use Rattle.sweep.proofs.Workspace.{pattern-length, text-length, space-kept}
-use Rattle.index.specs.Indexed.{patternHash, textHash, Built}
-use Rattle.index.specs.Linking.{freeAt, Linking}
-use Rattle.index.proofs.Free.{free-inside}
+use Rattle.sweep.proofs.Workspace.{pattern-length, text-length}
+use Rattle.index.specs.Indexed.{patternHash, textHash, link, slot, Ranges, Indexed}
+use Rattle.index.specs.Built.{freeAt, inBucket, nextIn, Linked, Built}
+use Rattle.index.specs.declared.Pass.{Pass}
+use Rattle.index.proofs.Bucket.{bucket-below}
+use Rattle.index.proofs.First.{first-least, first-most, first-passes}
+use Rattle.index.proofs.Free.{free-run}
+use Rattle.index.proofs.Kept.{row-inside, column-inside}
 
 -- The words of a run are the same on both sides.
 run-equal : (ps ts : List ℕ) (s : ℕ) → s ≤ run ps ts → take s ps ≡ take s ts
@@ -41,7 +48,75 @@ take-front a b xs ys e = sym (take-take a (a + b) xs (omega arith)) ∙ (ap (tak
 drop-front : (a b : ℕ) (xs : List ℕ) → a ≤ length xs → drop a (take (a + b) xs) ≡ take b (drop a xs)
 drop-front a b xs h = rw (take-add a b xs) (drop-at (take a xs) (take b (drop a xs)) a (length-take-le a xs h))
 
-module _ (j : Job) (s B : ℕ) (ws ws' : List ℕ) (space : Space j ws) (least : 1 ≤ s) (made : ws' ≡ take (j .n + j .m) ws ++ onto (hashes B s (take (j .n + j .m) ws)) (drop (j .n + j .m) ws)) where
+-- ---- what the search may go by
+both-true : (a b : Bool) → a ≡ true → b ≡ true → (a && b) ≡ true
+both-true a b e k = rw (e, k) refl
+
+second-true : (a b : Bool) → (a && b) ≡ true → b ≡ true
+second-true true b e = e
+second-true false b e = cc
+
+module _ (x : Pass) (ws hs : List ℕ) (fs : List Bool) (ranges : Ranges x) (space : Space (x .job) ws) (on-pattern : (p : ℕ) → p + x .s ≤ x .job .n → patternHash (x .job) ws p ≡ hashAt (x .multiplier) (x .s) (state (x .job) ws .pattern) p) (on-text : (t : ℕ) → t + x .s ≤ x .job .m → textHash (x .job) ws t ≡ hashAt (x .multiplier) (x .s) (state (x .job) ws .text) t) (heads : (b : ℕ) → b < 1024 → getD hs b 0 ≡ nextIn x ws b 0) (links : (t : ℕ) → t < x .job .m → link (x .job) ws t ≡ nextIn x ws (bucket (x .buckets) (textHash (x .job) ws t)) (t + 1)) (known : (t : ℕ) → x .s ≤ freeAt (x .job) ws t → getD fs (slot (textHash (x .job) ws t)) false ≡ true) where
+  abbrev bucketAt : ℕ → ℕ
+  bucketAt t = bucket (x .buckets) (textHash (x .job) ws t)
+
+  -- A number past the text is none of its positions.
+  passes : (b t : ℕ) → nextIn x ws b t < x .job .m → bucketAt (nextIn x ws b t) ≡ b
+  passes b t l =
+      let r = nextIn x ws b t in
+      let e : inBucket x ws b r ≡ true = first-passes (inBucket x ws b) t (x .job .m - t) (omega (arith, space .short-text)) in
+      eqb-true (bucketAt r) b (second-true (leb (x .s) (freeAt (x .job) ws r)) (eqb (bucketAt r) b) e)
+
+  module _ (p u : ℕ) (h : x .s ≤ runAt (state (x .job) ws) p u) where
+    same-hash : textHash (x .job) ws u ≡ patternHash (x .job) ws p
+    same-hash =
+        let ps = drop p (state (x .job) ws .pattern) in
+        let ts = drop u (state (x .job) ws .text) in
+        let in-pattern : p + x .s ≤ x .job .n = omega (arith, h, ranges .one, run-within ps ts, length-drop p (state (x .job) ws .pattern), pattern-length (x .job) ws space) in
+        let in-text : u + x .s ≤ x .job .m = omega (arith, h, ranges .one, run-within ps ts, length-drop u (state (x .job) ws .text), text-length (x .job) ws space) in
+        on-text u in-text ∙ (ap (hash (x .multiplier)) (sym (run-equal ps ts (x .s) h)) ∙ sym (on-pattern p in-pattern))
+
+    inside : u < x .job .m
+    inside = column-inside (x .job) ws p u (omega (arith, h, ranges .one))
+
+    free : x .s ≤ freeAt (x .job) ws u
+    free = omega (arith, h, free-run (x .job) ws p u)
+
+    -- Its window is free and in the bucket of the pattern's.
+    found : (b : ℕ) → b ≡ bucket (x .buckets) (patternHash (x .job) ws p) → inBucket x ws b u ≡ true
+    found b e =
+        both-true (leb (x .s) (freeAt (x .job) ws u)) (eqb (bucketAt u) b) (le-leb (x .s) (freeAt (x .job) ws u) free)
+        (eq-eqb (bucketAt u) b (ap (bucket (x .buckets)) same-hash ∙ sym e))
+
+    not-past : (b t : ℕ) → b ≡ bucket (x .buckets) (patternHash (x .job) ws p) → t ≤ u → nextIn x ws b t ≤ u
+    not-past b t e l = first-most (inBucket x ws b) t (x .job .m - t) u (found b e) l (omega (arith, inside))
+
+  pub indexed : Indexed x ws hs fs
+  indexed =
+      record {
+        least = ranges .one;
+        kin = same-hash;
+        known = λ p u h. rw (← same-hash p u h) (known u (free p u h));
+        head = λ p u h.
+            let b = bucket (x .buckets) (patternHash (x .job) ws p) in
+            omega (arith, heads b (bucket-below (x .buckets) (patternHash (x .job) ws p) (ranges .some-bucket) (ranges .few-buckets)), not-past p u h b 0 refl (omega arith));
+        next = λ p u v h l e. omega (arith, links v (omega (arith, inside p u h)), not-past p u h (bucketAt v) (v + 1) e (omega arith));
+        head-bucket = λ b l k. rw (heads b l) (passes b 0 (omega (arith, heads b l)));
+        link-bucket = λ v l k. rw (links v l) (passes (bucketAt v) (v + 1) (omega (arith, links v l)));
+        rising = λ v l. omega (arith, links v l, first-least (inBucket x ws (bucketAt v)) (v + 1) (x .job .m - (v + 1)) (omega (arith, space .short-text)));
+      }
+
+-- ---- the hashes
+module _ (x : Pass) (ws ws' : List ℕ) (space : Space (x .job) ws) (ranges : Ranges x) (made : ws' ≡ take (x .job .n + x .job .m) ws ++ onto (hashes (x .multiplier) (x .s) (take (x .job .n + x .job .m) ws)) (drop (x .job .n + x .job .m) ws)) where
+  abbrev j : Job
+  j = x .job
+
+  abbrev s : ℕ
+  s = x .s
+
+  abbrev B : ℕ
+  B = x .multiplier
+
   abbrev both : List ℕ
   both = take (j .n + j .m) ws
 
@@ -54,7 +129,7 @@ module _ (j : Job) (s B : ℕ) (ws ws' : List ℕ) (space : Space j ws) (least :
   few-hashes : length (hashes B s both) ≤ j .n + j .m
   few-hashes = omega (arith, length-hashes B s both, both-length)
 
-  pub hashed-length : length ws' ≡ length ws
+  hashed-length : length ws' ≡ length ws
   hashed-length =
       ap length made
       ∙ (length-append both (onto (hashes B s both) (drop (j .n + j .m) ws))
@@ -69,7 +144,7 @@ module _ (j : Job) (s B : ℕ) (ws ws' : List ℕ) (space : Space j ws) (least :
       sym (drop-front (j .n) (j .m) ws' (omega (arith, hashed-length, space .roomy)))
       ∙ (ap (drop (j .n)) same-front ∙ drop-front (j .n) (j .m) ws (omega (arith, space .roomy)))
 
-  pub hashed-state : state j ws' ≡ state j ws
+  hashed-state : state j ws' ≡ state j ws
   hashed-state = λ i. record { pattern = take-front (j .n) (j .m) ws' ws same-front i; text = same-text i }
 
   -- What is stored for a position of the two.
@@ -98,40 +173,37 @@ module _ (j : Job) (s B : ℕ) (ws ws' : List ℕ) (space : Space j ws) (least :
       ∙ (ap (λ x. take s (drop x (state j ws .pattern ++ state j ws .text))) at
       ∙ ap (take s) (drop-append-add (state j ws .pattern) (state j ws .text) u))
 
-  same-hash : (p u : ℕ) → s ≤ runAt (state j ws) p u → textHash j ws' u ≡ patternHash j ws' p
-  same-hash p u h =
-      let ps = drop p (state j ws .pattern) in
-      let ts = drop u (state j ws .text) in
-      let in-pattern : p + s ≤ j .n = omega (arith, h, least, run-within ps ts, length-drop p (state j ws .pattern), pattern-length j ws space) in
-      let in-text : u + s ≤ j .m = omega (arith, h, least, run-within ps ts, length-drop u (state j ws .text), text-length j ws space) in
-      let at : j .n + j .m + j .n + u ≡ j .n + j .m + (j .n + u) = omega arith in
-      ap (λ x. getD ws' x 0) at
-      ∙ (stored (j .n + u) (omega arith)
-      ∙ (ap (hash B) (text-window u ∙ (sym (run-equal ps ts s h) ∙ sym (pattern-window p in-pattern))) ∙ sym (stored p (omega arith))))
+  on-pattern : (p : ℕ) → p + s ≤ j .n → patternHash j ws' p ≡ hashAt B s (state j ws .pattern) p
+  on-pattern p fits = stored p (omega arith) ∙ ap (hash B) (pattern-window p fits)
 
-  -- ---- before the first link
-  module _ (k : ℕ) (heads : List ℕ) (seen : List Bool) (fresh : heads ≡ replicate 1024 2048) where
-    past : (b : ℕ) → b < 1024 → 2048 ≤ getD heads b 0
-    past b h = rw fresh (omega (arith, getD-replicate {A = ℕ} 1024 b 2048 0 h))
+  on-text : (t : ℕ) → t + s ≤ j .m → textHash j ws' t ≡ hashAt B s (state j ws .text) t
+  on-text t fits =
+      let at : j .n + j .m + j .n + t ≡ j .n + j .m + (j .n + t) = omega arith in
+      ap (λ i. getD ws' i 0) at ∙ (stored (j .n + t) (omega arith) ∙ ap (hash B) (text-window t))
 
-    pub linking-none : Linking j s k ws' heads seen (j .m) (j .m)
-    linking-none =
-        record {
-          space = space-kept j ws ws' hashed-length space;
-          least = least;
-          kin = λ p u h. same-hash p u (subst (λ (x : State). s ≤ runAt x p u) hashed-state h);
-          known = λ u g f. absurd (none u g f);
-          head = λ u g f. absurd (none u g f);
-          head-bucket = λ b d e. absurd (omega (arith, e, past b d, space .short-text));
-          ahead = λ b d. omega (arith, past b d, space .short-text);
-          next = λ u w g d f e. absurd (none u (omega arith) f);
-          link-bucket = λ w g d e. absurd (omega arith);
-          rising = λ w g d. absurd (omega arith);
-        }
-      where
-        none : (u : ℕ) → j .m ≤ u → s ≤ freeAt j ws' u → ⊥
-        none u g f = omega (arith, g, free-inside j ws' u (omega (arith, f, least)))
+  -- The windows were linked from there.
+  pub built-all : (ws₂ hs : List ℕ) (fs : List Bool) → Linked x ws' ws₂ hs fs → Built x ws ws₂ hs fs
+  built-all ws₂ hs fs l =
+      record {
+        same = same;
+        on-pattern = pattern;
+        on-text = text;
+        heads = l .heads;
+        links = l .links;
+        indexed =
+            indexed x ws₂ hs fs ranges (l .space)
+            (λ p fits. pattern p fits ∙ ap (λ (u : State). hashAt B s (u .pattern) p) (sym same))
+            (λ t fits. text t fits ∙ ap (λ (u : State). hashAt B s (u .text) t) (sym same))
+            (l .heads)
+            (l .links)
+            (l .known);
+      }
+    where
+      same : state j ws₂ ≡ state j ws
+      same = l .same ∙ hashed-state
 
-  -- What was built from there.
-  pub built-all : (k : ℕ) (ws₂ heads : List ℕ) (seen : List Bool) → Built j s k ws' ws₂ heads seen → Built j s k ws ws₂ heads seen
-  built-all k ws₂ heads seen b = record { same = b .same ∙ hashed-state; indexed = b .indexed }
+      pattern : (p : ℕ) → p + s ≤ j .n → patternHash j ws₂ p ≡ hashAt B s (state j ws .pattern) p
+      pattern p fits = l .on-pattern p (omega (arith, ranges .one)) ∙ on-pattern p fits
+
+      text : (t : ℕ) → t + s ≤ j .m → textHash j ws₂ t ≡ hashAt B s (state j ws .text) t
+      text t fits = l .on-text t (omega (arith, ranges .one)) ∙ on-text t fits

@@ -1,2 +1,2 @@
 pub mod Indexed
-pub mod Linking
+pub mod Built

@@ -8,12 +8,14 @@ ghost use mathlib.Core.Bool.{true, false};
 ghost use Prim.Native.Nat.{_+_, _≤_, _<_};
 ghost use lib.ListN.{length, getD, set, replicate};
 ghost use Rattle.window.specs.Hash.{bucket};
-ghost use Rattle.sweep.specs.Workspace.{Space, state, boundsFrom};
-ghost use Rattle.index.specs.Indexed.{patternHash, textHash, link, slot, Built};
-ghost use Rattle.index.specs.Linking.{freeAt, Linking};
+ghost use Rattle.sweep.specs.Workspace.{Space, boundsFrom};
+ghost use Rattle.index.specs.Indexed.{patternHash, textHash, link, slot, Ranges};
+ghost use Rattle.index.specs.Built.{freeAt, Entered, Linked, Built};
 
-// How windows are hashed.
-pub struct Hashing {
+// A pass of the search: the comparison, the search length s, and how windows are hashed.
+pub struct Pass {
+    pub job: Job,
+    pub s: usize,
     pub multiplier: u32,
     pub buckets: u32,
 }
@@ -58,21 +60,21 @@ fn wide(w: u32) -> usize
     w as usize
 }
 
-// The next position of the text in the same bucket; past the last, a number that is no position.
-pub fn next_text(ws: &[u32], job: Job, t: TextAt) -> usize
+// The next position of the text in the same bucket; after the last, one past the text.
+pub fn next_text(ws: &[u32], job: Job, t: TextAt) -> TextAt
     requires { ⌜ Space job (now ws) × (t .0 < job .m) ⌝ }
-    ensures { λ r. ⌜ r ≡ link job (now (ws .entry)) (t .0) ⌝ }
+    ensures { λ r. ⌜ r .0 ≡ link job (now (ws .entry)) (t .0) ⌝ }
 {
     let at = 2 * (job.n + job.m) + job.n + t.0;
-    wide(ws[at])
+    TextAt(wide(ws[at]))
 }
 
-// The first position of the text in a bucket; where there is none, a number that is no position.
-pub fn first_text(heads: &[u32; 1024], bucket: usize) -> usize
+// The first position of the text in a bucket; where there is none, one past the text.
+pub fn first_text(heads: &[u32; 1024], bucket: usize) -> TextAt
     requires { ⌜ bucket < 1024 ⌝ }
-    ensures { λ r. ⌜ r ≡ getD (now (heads .entry)) bucket 0 ⌝ }
+    ensures { λ r. ⌜ r .0 ≡ getD (now (heads .entry)) bucket 0 ⌝ }
 {
-    wide(heads[bucket])
+    TextAt(wide(heads[bucket]))
 }
 
 // Whether the filter knows a hash.
@@ -124,22 +126,19 @@ fn enter(heads: &mut [u32; 1024], seen: &mut [bool; 16384], bucket: usize, h: u3
 // Links the text's window at t to the head of its bucket, and makes it the head where its s words are free.
 fn link_window(
     ws: &mut [u32],
-    job: Job,
-    buckets: u32,
-    s: usize,
+    pass: Pass,
     t: TextAt,
     free: usize,
     heads: &mut [u32; 1024],
     seen: &mut [bool; 16384],
 )
-    requires { ⌜ Linking job s buckets (now ws) (now heads) (now seen) (t .0 + 1) (t .0 + 1) × (t .0 < job .m) × (free ≡ freeAt job (now ws) (t .0)) × (1 ≤ buckets) × (buckets ≤ 1024) ⌝ }
-    ensures { λ r. ⌜ Linking job s buckets (now (ws .exit)) (now (heads .exit)) (now (seen .exit)) (t .0) (t .0) ⌝ }
-    ensures { λ r. ⌜ state job (now (ws .exit)) ≡ state job (now (ws .entry)) ⌝ }
+    requires { ⌜ Space (pass .job) (now ws) × (t .0 < pass .job .m) × (1 ≤ pass .buckets) × (pass .buckets ≤ 1024) ⌝ }
+    ensures { λ r. ⌜ Entered pass (t .0) free (now (ws .entry)) (now (heads .entry)) (now (seen .entry)) (now (ws .exit)) (now (heads .exit)) (now (seen .exit)) ⌝ }
 {
-    let h = text_hash(ws, job, t);
-    let bucket = bucket_of(h, buckets);
-    set_link(ws, job, t, heads[bucket]);
-    if free < s {
+    let h = text_hash(ws, pass.job, t);
+    let bucket = bucket_of(h, pass.buckets);
+    set_link(ws, pass.job, t, heads[bucket]);
+    if free < pass.s {
         return;
     }
     enter(heads, seen, bucket, h, t);
@@ -148,37 +147,29 @@ fn link_window(
 // Links the text's windows by bucket, from right to left, so that each chain rises.
 fn link_windows(
     ws: &mut [u32],
-    job: Job,
-    buckets: u32,
-    s: usize,
+    pass: Pass,
     heads: &mut [u32; 1024],
     seen: &mut [bool; 16384],
 )
-    requires { ⌜ Linking job s buckets (now ws) (now heads) (now seen) (job .m) (job .m) × (1 ≤ buckets) × (buckets ≤ 1024) ⌝ }
-    ensures { λ r. ⌜ Built job s buckets (now (ws .entry)) (now (ws .exit)) (now (heads .exit)) (now (seen .exit)) ⌝ }
+    requires { ⌜ Space (pass .job) (now ws) × Ranges pass × (now heads ≡ replicate 1024 2048) ⌝ }
+    ensures { λ r. ⌜ Linked pass (now (ws .entry)) (now (ws .exit)) (now (heads .exit)) (now (seen .exit)) ⌝ }
 {
     let mut free = 0;
-    let mut t = job.m;
+    let mut t = pass.job.m;
     while 0 < t {
         t -= 1;
-        free = free_from(ws, job, TextAt(t), free);
-        link_window(ws, job, buckets, s, TextAt(t), free, heads, seen);
+        free = free_from(ws, pass.job, TextAt(t), free);
+        link_window(ws, pass, TextAt(t), free, heads, seen);
     }
 }
 
 // Hashes every window of s words and links the text's free windows by bucket, from right to left, so that each chain rises.
 // Every head must be past the text; of the filter nothing is asked, since an entry that is true too often does no harm.
-pub fn build(
-    ws: &mut [u32],
-    job: Job,
-    hashing: Hashing,
-    s: usize,
-    heads: &mut [u32; 1024],
-    seen: &mut [bool; 16384],
-)
-    requires { ⌜ Space job (now ws) × (1 ≤ s) × (s ≤ 2048) × (1 ≤ hashing .buckets) × (hashing .buckets ≤ 1024) × (now heads ≡ replicate 1024 2048) ⌝ }
-    ensures { λ r. ⌜ Built job s (hashing .buckets) (now (ws .entry)) (now (ws .exit)) (now (heads .exit)) (now (seen .exit)) ⌝ }
+pub fn build(ws: &mut [u32], pass: Pass, heads: &mut [u32; 1024], seen: &mut [bool; 16384])
+    requires { ⌜ Space (pass .job) (now ws) × Ranges pass × (now heads ≡ replicate 1024 2048) ⌝ }
+    ensures { λ r. ⌜ Built pass (now (ws .entry)) (now (ws .exit)) (now (heads .exit)) (now (seen .exit)) ⌝ }
 {
-    window::hash_windows(ws, job.n + job.m, hashing.multiplier, s);
-    link_windows(ws, job, hashing.buckets, s, heads, seen);
+    let words = pass.job.n + pass.job.m;
+    window::hash_windows(ws, words, pass.multiplier, pass.s);
+    link_windows(ws, pass, heads, seen);
 }

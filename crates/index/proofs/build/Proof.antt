@@ -1,19 +1,18 @@
--- `index::build` meets its contract: where a run of s words begins the two windows have the same hash, and the links are then made from right to
--- left.
+-- `index::build` meets its contract: the hashes are those of the windows, and the links are then made from right to left.
 -- Assumes nothing.
-use Rattle.index.proofs.Windows.{linking-none, built-all}
+use Rattle.index.proofs.Windows.{built-all}
 use borrow.Author.Needs.{needs}
 use Rattle.index.proofs.build.Statement.{statement}
 use Rattle.index.proofs.build.Tie as tie
 
-add-hash-windows : tie.Need-add-hash-windows
-add-hash-windows c = search needs
+add-words : tie.Need-add-words
+add-words c = search needs
 
 hash-windows-requires : tie.Need-hash-windows-requires
 hash-windows-requires c κs = search needs
 
 link-windows-requires : tie.Need-link-windows-requires
-link-windows-requires c κs = (search linking-none, search needs, search needs)
+link-windows-requires c κs = search needs
 
 same-length : tie.Need-same-length
 same-length c = search needs
@@ -23,5 +22,4 @@ returns c = search built-all
 
 pub build-spec : {M : Type 1} → statement M
 build-spec =
-    tie.close
-    (tie.spec add-hash-windows hash-windows-requires link-windows-requires same-length returns)
+    tie.close (tie.spec add-words hash-windows-requires link-windows-requires same-length returns)

@@ -1,6 +1,6 @@
 -- `index::link_window` meets its contract: the link takes over the head of the bucket, and a free window becomes the head.
 -- Assumes nothing.
-use Rattle.index.proofs.Linking.{state-linked, linking-skip, linking-enter}
+use Rattle.index.proofs.Linking.{entered-not, entered-new}
 use borrow.Author.Needs.{needs}
 use Rattle.index.proofs.link_window.Statement.{statement}
 use Rattle.index.proofs.link_window.Tie as tie
@@ -24,7 +24,7 @@ same-length : tie.Need-same-length
 same-length c = search needs
 
 returns : tie.Need-returns
-returns c = (search linking-skip, search state-linked)
+returns c = search entered-not
 
 enter-requires : tie.Need-enter-requires
 enter-requires c κs = search needs
@@ -33,7 +33,7 @@ same-length-2 : tie.Need-same-length-2
 same-length-2 c = search needs
 
 returns-2 : tie.Need-returns-2
-returns-2 c = (search linking-enter, search state-linked)
+returns-2 c = search entered-new
 
 pub link-window-spec : {M : Type 1} → statement M
 link-window-spec =

@@ -1,16 +1,16 @@
--- `index::link_windows` meets its contract: at the head of each turn the links are written from t on, heads and filter know the free windows from t on, and free counts
--- the calls from t on.
+-- `index::link_windows` meets its contract: at the head of each turn the links are written from t on, each head is the first free window of its
+-- bucket from t on, and free counts the calls from t on.
 -- Assumes nothing.
-use Rattle.index.proofs.Linking.{Backward, backward-none, backward-inside, backward-free, backward-link, backward-more, backward-all}
+use Rattle.index.proofs.Linking.{Backward, backward-none, backward-inside, backward-free, backward-more, backward-all}
 use borrow.Author.Needs.{needs}
 use Rattle.index.proofs.link_windows.Statement.{statement}
 use Rattle.index.proofs.link_windows.Tie as tie
 
 abbrev Inv-loop : tie.InvT-loop
-Inv-loop ws₀ job buckets s heads₀ seen₀ free₀ t₀ ws heads seen free t = Backward job s buckets ws₀ ws heads seen t free
+Inv-loop ws₀ pass heads₀ seen₀ free₀ t₀ ws heads seen free t = Backward pass ws₀ ws heads seen t free
 
 abbrev μ-loop : tie.MeasureT-loop
-μ-loop ws₀ job buckets s heads₀ seen₀ free₀ t₀ ws heads seen free t = t
+μ-loop ws₀ pass heads₀ seen₀ free₀ t₀ ws heads seen free t = t
 
 loop-holds : tie.Need-loop-holds Inv-loop μ-loop
 loop-holds c = search backward-none
@@ -22,7 +22,7 @@ free-from-requires : tie.Need-free-from-requires Inv-loop μ-loop
 free-from-requires c κs = (search needs, search backward-inside, search backward-free)
 
 link-window-requires : tie.Need-link-window-requires Inv-loop μ-loop
-link-window-requires c κs = (search backward-link, search backward-inside, search needs, search needs, search needs)
+link-window-requires c κs = (search needs, search backward-inside, search needs, search needs)
 
 loop-less : tie.Need-loop-less Inv-loop μ-loop
 loop-less c = search needs
