@@ -23,6 +23,7 @@ use Rattle.sweep.specs.declared.Job.{Job}
 use Rattle.sweep.proofs.Row.{better-old}
 use Rattle.sweep.proofs.Workspace.{rest-of-front}
 use Rattle.index.specs.Indexed.{patternHash, textHash}
+use Rattle.index.specs.declared.Pass.{Pass}
 use Rattle.rows.specs.Reached.{Alike}
 
 -- The run of the two parts that begin at the positions.
@@ -46,7 +47,13 @@ run-further s p t d n h =
     rw (getD-drop (p + d) (s .pattern) i 0, getD-drop (t + d) (s .text) i 0, a, b, ← getD-drop p (s .pattern) (d + i) 0, ← getD-drop t (s .text) (d + i) 0)
     m)
 
-module _ (j : Job) (s : ℕ) (ws : List ℕ) (p t : ℕ) (f : Found) (alike : Alike j s ws) (least : s ≤ f .len + 1) where
+module _ (x : Pass) (ws : List ℕ) (p t : ℕ) (f : Found) (alike : Alike x ws) (least : x .s ≤ f .len + 1) where
+  abbrev j : Job
+  j = x .job
+
+  abbrev s : ℕ
+  s = x .s
+
   unlike-here : (textHash j ws t ≡ patternHash j ws p → ⊥) → runAt (state j ws) p t ≤ f .len
   unlike-here d = go (decLt (f .len) (runAt (state j ws) p t))
     where
@@ -61,11 +68,11 @@ module _ (j : Job) (s : ℕ) (ws : List ℕ) (p t : ℕ) (f : Found) (alike : Al
       go (yes h) = absurd (n (alike (p + d) (t + d) (run-further (state j ws) p t d s (omega arith))))
       go (no h) = omega (arith, h)
 
-  pub look-unlike : (x : Bool) → x ≡ eqb (textHash j ws t) (patternHash j ws p) → x ≡ false → (a : TextAt) → f ≡ better f a (runAt (state j ws) p t)
-  look-unlike x u v a = better-old f a (runAt (state j ws) p t) (unlike-here (eqb-false _ _ (sym u ∙ v)))
+  pub look-unlike : (same : Bool) → same ≡ eqb (textHash j ws t) (patternHash j ws p) → same ≡ false → (a : TextAt) → f ≡ better f a (runAt (state j ws) p t)
+  look-unlike same u v a = better-old f a (runAt (state j ws) p t) (unlike-here (eqb-false _ _ (sym u ∙ v)))
 
-  pub look-ended : (x : Bool) → x ≡ eqb (textHash j ws (t + (f .len + 1 - s))) (patternHash j ws (p + (f .len + 1 - s))) → x ≡ false → (a : TextAt) → f ≡ better f a (runAt (state j ws) p t)
-  look-ended x u v a = better-old f a (runAt (state j ws) p t) (unlike-further (f .len + 1 - s) refl (eqb-false _ _ (sym u ∙ v)))
+  pub look-ended : (same : Bool) → same ≡ eqb (textHash j ws (t + (f .len + 1 - s))) (patternHash j ws (p + (f .len + 1 - s))) → same ≡ false → (a : TextAt) → f ≡ better f a (runAt (state j ws) p t)
+  look-ended same u v a = better-old f a (runAt (state j ws) p t) (unlike-further (f .len + 1 - s) refl (eqb-false _ _ (sym u ∙ v)))
 
 -- What is kept of the longer of the run and what was found.
 pub look-kept : (f g : Found) (a : TextAt) (len r : ℕ) → len ≡ max (f .len) r → g ≡ better f a len → g ≡ better f a r

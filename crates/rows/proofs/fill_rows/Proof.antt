@@ -6,10 +6,10 @@ use Rattle.rows.proofs.fill_rows.Statement.{statement}
 use Rattle.rows.proofs.fill_rows.Tie as tie
 
 abbrev Inv-loop : tie.InvT-loop
-Inv-loop ws₀ job s buckets heads seen last₀ p₀ ws last p = Filling job s buckets heads seen ws₀ ws p last
+Inv-loop ws₀ pass heads seen last₀ p₀ ws last p = Filling pass heads seen ws₀ ws p last
 
 abbrev μ-loop : tie.MeasureT-loop
-μ-loop ws₀ job s buckets heads seen last₀ p₀ ws last p = p
+μ-loop ws₀ pass heads seen last₀ p₀ ws last p = p
 
 loop-holds : tie.Need-loop-holds Inv-loop μ-loop
 loop-holds c = search filling-none
@@ -18,7 +18,7 @@ sub-p : tie.Need-sub-p Inv-loop μ-loop
 sub-p c = search needs
 
 row-bound-requires : tie.Need-row-bound-requires Inv-loop μ-loop
-row-bound-requires c κs = (search needs, search needs, search needs, search needs, search needs, search needs, search needs, search before-row)
+row-bound-requires c κs = (search needs, search needs, search needs, search needs, search before-row)
 
 set-bound-requires : tie.Need-set-bound-requires Inv-loop μ-loop
 set-bound-requires c κs = (search needs, search needs, search row-fits)

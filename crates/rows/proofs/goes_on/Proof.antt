@@ -1,6 +1,6 @@
--- `rows::goes_on` meets its contract: where it is true the position on the text was tested not to be 0.
+-- `rows::goes_on` meets its contract: where it is true the position was tested, and the words before it match.
 -- Assumes nothing.
-use Rattle.rows.proofs.Bounds.{goes-nowhere}
+use Rattle.rows.proofs.Bounds.{goes-nowhere, goes-further}
 use borrow.Author.Needs.{needs}
 use Rattle.rows.proofs.goes_on.Statement.{statement}
 use Rattle.rows.proofs.goes_on.Tie as tie
@@ -9,7 +9,7 @@ returns : tie.Need-returns
 returns c = search goes-nowhere
 
 returns-2 : tie.Need-returns-2
-returns-2 c = search needs
+returns-2 c = search goes-nowhere
 
 sub-on-text : tie.Need-sub-on-text
 sub-on-text c = search needs
@@ -18,7 +18,7 @@ alike-requires : tie.Need-alike-requires
 alike-requires c κs = search needs
 
 returns-3 : tie.Need-returns-3
-returns-3 c = search needs
+returns-3 c = search goes-nowhere
 
 add-on-text : tie.Need-add-on-text
 add-on-text c = search needs
@@ -42,7 +42,7 @@ words-match-requires : tie.Need-words-match-requires
 words-match-requires c κs = search needs
 
 returns-4 : tie.Need-returns-4
-returns-4 c = search needs
+returns-4 c = search goes-further
 
 pub goes-on-spec : {M : Type 1} → statement M
 goes-on-spec =

@@ -18,7 +18,7 @@ ends-alike-requires c κs = search needs
 returns-2 : tie.Need-returns-2
 returns-2 c =
     let a = c .before .before .before .before .before .args in
-    look-ended (a .job) (a .s) (a .ws .now) (a .p .0) (a .t .0) (a .found) (search needs) (search needs) (c .before .ends-alike .result) (c .before .ends-alike .ensures) (search not-true) (a .t)
+    look-ended (a .pass) (a .ws .now) (a .p .0) (a .t .0) (a .found) (search needs) (search needs) (c .before .ends-alike .result) (c .before .ends-alike .ensures) (search not-true) (a .t)
 
 longer-at-requires : tie.Need-longer-at-requires
 longer-at-requires c κs = search needs

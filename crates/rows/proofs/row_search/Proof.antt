@@ -8,10 +8,10 @@ use Rattle.rows.proofs.row_search.Statement.{statement}
 use Rattle.rows.proofs.row_search.Tie as tie
 
 abbrev Inv-loop : tie.InvT-loop
-Inv-loop ws job s buckets heads seen p floor cap found₀ own t₀ found t = Walked job s buckets ws (p .0) floor t found
+Inv-loop ws pass heads seen p range found₀ own t₀ found t = Walked pass ws (p .0) (range .floor) (t .0) found
 
 abbrev μ-loop : tie.MeasureT-loop
-μ-loop ws job s buckets heads seen p floor cap found₀ own t₀ found t = job .m - t
+μ-loop ws pass heads seen p range found₀ own t₀ found t = pass .job .m - t .0
 
 pattern-hash-requires : tie.Need-pattern-hash-requires Inv-loop μ-loop
 pattern-hash-requires c κs = search needs
@@ -32,7 +32,7 @@ loop-holds : tie.Need-loop-holds Inv-loop μ-loop
 loop-holds c = search walk-none
 
 look-requires : tie.Need-look-requires Inv-loop μ-loop
-look-requires c κs = (search needs, search walk-alike, search needs, search needs, search needs, search walk-low, search needs)
+look-requires c κs = (search needs, search walk-alike, search needs, search needs, search walk-low, search needs)
 
 next-text-requires : tie.Need-next-text-requires Inv-loop μ-loop
 next-text-requires c κs = search needs
