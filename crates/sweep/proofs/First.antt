@@ -1,6 +1,6 @@
 -- Looking for the first number that has a property, one number after another.
 -- Assumes nothing.
-use Prim.Native.Nat.{ℕ, _+_, _≤_, _<_}
+use Prim.Native.Nat.{ℕ, _+_, _-_, _≤_, _<_}
 use native.Mathlib.Decide.{ℕ-discrete}
 use native.Mathlib.Omega.{arith}
 use mathlib.Core.Path.{_≡_}
@@ -28,3 +28,7 @@ module _ (Q : ℕ → Type 0) (from n i : ℕ) (r : Passing Q from n i) where
 
   pub first-at : Q i → First Q from n i
   first-at q = record { least = r .least; within = r .within; none = r .none; stops = λ l. q }
+
+-- The next one after p is further on.
+pub first-rises : (Q : ℕ → Type 0) (p n r : ℕ) → p < n → First Q (p + 1) n r → n - r < n - p
+first-rises Q p n r h f = omega (arith, f .least, f .within)

@@ -7,16 +7,16 @@ use Rattle.levels.proofs.lay_levels.Statement.{statement}
 use Rattle.levels.proofs.lay_levels.Tie as tie
 
 abbrev Inv-loop : tie.InvT-loop
-Inv-loop ws₀ job s buckets heads seen top tiles₀ sum₀ level₀ ws tiles sum level = Lowering job s buckets heads seen ws₀ tiles₀ sum₀ ws tiles sum level
+Inv-loop ws₀ pass heads seen top tiles₀ sum₀ level₀ ws tiles sum level = Lowering pass heads seen ws₀ tiles₀ sum₀ ws tiles sum level
 
 abbrev μ-loop : tie.MeasureT-loop
-μ-loop ws₀ job s buckets heads seen top tiles₀ sum₀ level₀ ws tiles sum level = level
+μ-loop ws₀ pass heads seen top tiles₀ sum₀ level₀ ws tiles sum level = level
 
 loop-holds : tie.Need-loop-holds Inv-loop μ-loop
 loop-holds c = search lowering-none
 
 sweep-rows-requires : tie.Need-sweep-rows-requires Inv-loop μ-loop
-sweep-rows-requires c κs = (search (lowering-sweep, needs), search needs, search needs)
+sweep-rows-requires c κs = (search (lowering-sweep, needs), search needs, search needs, search needs)
 
 greatest-bound-requires : tie.Need-greatest-bound-requires Inv-loop μ-loop
 greatest-bound-requires c κs = search needs

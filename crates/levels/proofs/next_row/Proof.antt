@@ -2,19 +2,22 @@
 -- Assumes nothing.
 use Prim.Native.Nat.{_-_}
 use borrow.Author.Tests.{eqb-true, eqb-false, not-true, not-false}
-use Rattle.levels.proofs.Pass.{Skipping, skipping-none, skipping-more, skipped-end, skipped-at}
+use mathlib.Core.Path.{_≡_}
+use Rattle.sweep.specs.Workspace.{bound}
+use Rattle.sweep.proofs.First.{Passing, passing-none, passing-more, first-none, first-at}
+use Rattle.levels.proofs.Pass.{not-level, is-level}
 use borrow.Author.Needs.{needs}
 use Rattle.levels.proofs.next_row.Statement.{statement}
 use Rattle.levels.proofs.next_row.Tie as tie
 
 abbrev Inv-loop : tie.InvT-loop
-Inv-loop ws job level from p₀ p = Skipping job ws level from p
+Inv-loop ws job level p₀ p = Passing (λ q. bound job ws q ≡ level) p₀ (job .n) p
 
 abbrev μ-loop : tie.MeasureT-loop
-μ-loop ws job level from p₀ p = job .n - p
+μ-loop ws job level p₀ p = job .n - p
 
 loop-holds : tie.Need-loop-holds Inv-loop μ-loop
-loop-holds c = search skipping-none
+loop-holds c = search passing-none
 
 bound-of-requires : tie.Need-bound-of-requires Inv-loop μ-loop
 bound-of-requires c κs = search needs
@@ -26,13 +29,13 @@ loop-less : tie.Need-loop-less Inv-loop μ-loop
 loop-less c = search needs
 
 loop-again : tie.Need-loop-again Inv-loop μ-loop
-loop-again c = search (skipping-more, eqb-false, not-true)
+loop-again c = search (passing-more, not-level, eqb-false, not-true)
 
 returns : tie.Need-returns Inv-loop μ-loop
-returns c = search (skipped-at, eqb-true, not-false)
+returns c = search (first-at, is-level, eqb-true, not-false)
 
 returns-2 : tie.Need-returns-2 Inv-loop μ-loop
-returns-2 c = search skipped-end
+returns-2 c = search first-none
 
 pub next-row-spec : {M : Type 1} → statement M
 next-row-spec =

@@ -1,17 +1,18 @@
 -- `levels::sweep_rows` meets its contract: each turn takes the sweep over one row whose bound is the level, and over those up to the next.
 -- Assumes nothing.
 use Prim.Native.Nat.{_-_}
-use Rattle.levels.proofs.Pass.{Turning, turning-none, turning-full, turning-more, turning-less}
 use Rattle.sweep.proofs.Turn.{swept-all}
+use Rattle.levels.proofs.Pass.{Turning, turning-none, turning-row, turning-long, turning-more}
+use Rattle.sweep.proofs.First.{first-rises}
 use borrow.Author.Needs.{needs}
 use Rattle.levels.proofs.sweep_rows.Statement.{statement}
 use Rattle.levels.proofs.sweep_rows.Tie as tie
 
 abbrev Inv-loop : tie.InvT-loop
-Inv-loop ws₀ job s buckets heads seen level tiles₀ sum₀ p₀ ws tiles sum p = Turning job s buckets heads seen level ws₀ tiles₀ sum₀ ws tiles sum p
+Inv-loop ws₀ pass heads seen level tiles₀ sum₀ p₀ ws tiles sum p = Turning pass heads seen level ws₀ tiles₀ sum₀ ws tiles sum (p .0)
 
 abbrev μ-loop : tie.MeasureT-loop
-μ-loop ws₀ job s buckets heads seen level tiles₀ sum₀ p₀ ws tiles sum p = job .n - p
+μ-loop ws₀ pass heads seen level tiles₀ sum₀ p₀ ws tiles sum p = pass .job .n - p .0
 
 next-row-requires : tie.Need-next-row-requires Inv-loop μ-loop
 next-row-requires c κs = search needs
@@ -20,16 +21,16 @@ loop-holds : tie.Need-loop-holds Inv-loop μ-loop
 loop-holds c = search turning-none
 
 visit-requires : tie.Need-visit-requires Inv-loop μ-loop
-visit-requires c κs = (search needs, search needs, search needs, search needs, search turning-full)
+visit-requires c κs = (search turning-row, search needs, search needs, search turning-long, search needs)
 
-add-next-row : tie.Need-add-next-row Inv-loop μ-loop
-add-next-row c = search needs
+add-t20 : tie.Need-add-t20 Inv-loop μ-loop
+add-t20 c = search needs
 
 next-row-requires-2 : tie.Need-next-row-requires-2 Inv-loop μ-loop
 next-row-requires-2 c κs = search needs
 
 loop-less : tie.Need-loop-less Inv-loop μ-loop
-loop-less c = search turning-less
+loop-less c = search first-rises
 
 loop-again : tie.Need-loop-again Inv-loop μ-loop
 loop-again c = search turning-more
@@ -52,7 +53,7 @@ sweep-rows-spec =
     next-row-requires
     loop-holds
     visit-requires
-    add-next-row
+    add-t20
     next-row-requires-2
     loop-less
     loop-again

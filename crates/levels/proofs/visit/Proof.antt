@@ -1,18 +1,21 @@
 -- `levels::visit` meets its contract: no run of the row exceeds its bound, so it is searched as settling asks, and settling keeps the index.
 -- Assumes nothing.
-use Rattle.levels.proofs.Pass.{row-searched, row-settled}
+use Rattle.levels.proofs.Pass.{row-entered, row-searched, row-settled, row-left}
 use borrow.Author.Needs.{needs}
 use Rattle.levels.proofs.visit.Statement.{statement}
 use Rattle.levels.proofs.visit.Tie as tie
 
-sub-row-search : tie.Need-sub-row-search
-sub-row-search c = search needs
+bound-of-requires : tie.Need-bound-of-requires
+bound-of-requires c κs = search needs
+
+sub-t13 : tie.Need-sub-t13
+sub-t13 c = search needs
 
 row-search-requires : tie.Need-row-search-requires
 row-search-requires c κs = search needs
 
 settle-requires : tie.Need-settle-requires
-settle-requires c κs = (search needs, search needs, search row-searched)
+settle-requires c κs = (search row-entered, search needs, search row-searched)
 
 same-length : tie.Need-same-length
 same-length c = search needs
@@ -21,9 +24,16 @@ same-length-2 : tie.Need-same-length-2
 same-length-2 c = search needs
 
 returns : tie.Need-returns
-returns c = (search needs, (search needs, search row-settled))
+returns c = (search row-left, (search needs, search row-settled))
 
 pub visit-spec : {M : Type 1} → statement M
 visit-spec =
     tie.close
-    (tie.spec sub-row-search row-search-requires settle-requires same-length same-length-2 returns)
+    (tie.spec
+    bound-of-requires
+    sub-t13
+    row-search-requires
+    settle-requires
+    same-length
+    same-length-2
+    returns)
