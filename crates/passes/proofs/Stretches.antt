@@ -18,7 +18,7 @@ use Rattle.tile.proofs.Measure.{run-most}
 use Rattle.rows.proofs.Pairs.{run-further}
 use Rattle.sweep.specs.Workspace.{state}
 use Rattle.sweep.specs.declared.Job.{Job}
-use Rattle.search.specs.Passing.{longer, Stretch}
+use Rattle.passes.specs.Passing.{longer, Stretch}
 
 -- ---- one word
 pub stretch-call : (b : Bool) (w after : ℕ) → b ≡ isCall w → b ≡ true → after + 1 ≡ longer (isCall w) after

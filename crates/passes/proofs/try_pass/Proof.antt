@@ -1,9 +1,9 @@
--- `search::try_pass` meets its contract: it is over, or nothing was laid and a run is longer than twice the search length.
+-- `passes::try_pass` meets its contract: it is over, or nothing was laid and a run is longer than twice the search length.
 -- Assumes nothing.
-use Rattle.search.proofs.Passes.{tried-ready, tried-searching, tried-greatest, tried-again, tried-over}
+use Rattle.passes.proofs.Passes.{tried-ready, tried-greatest, tried-again, tried-over}
 use borrow.Author.Needs.{needs}
-use Rattle.search.proofs.try_pass.Statement.{statement}
-use Rattle.search.proofs.try_pass.Tie as tie
+use Rattle.passes.proofs.try_pass.Statement.{statement}
+use Rattle.passes.proofs.try_pass.Tie as tie
 
 measure-requires : tie.Need-measure-requires
 measure-requires c κs = search needs
@@ -18,7 +18,7 @@ returns : tie.Need-returns
 returns c = search tried-again
 
 lay-levels-requires : tie.Need-lay-levels-requires
-lay-levels-requires c κs = (search tried-ready, search tried-searching, search tried-greatest)
+lay-levels-requires c κs = (search tried-ready, search needs, search needs, search tried-greatest)
 
 same-length-2 : tie.Need-same-length-2
 same-length-2 c = search needs

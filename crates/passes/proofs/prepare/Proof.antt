@@ -1,9 +1,9 @@
--- `search::prepare` meets its contract: an index changes no word of the sequences.
+-- `passes::prepare` meets its contract: an index changes no word of the sequences.
 -- Assumes nothing.
-use Rattle.search.proofs.Passes.{filled-built}
+use Rattle.passes.proofs.Passes.{filled-built}
 use borrow.Author.Needs.{needs}
-use Rattle.search.proofs.prepare.Statement.{statement}
-use Rattle.search.proofs.prepare.Tie as tie
+use Rattle.passes.proofs.prepare.Statement.{statement}
+use Rattle.passes.proofs.prepare.Tie as tie
 
 build-requires : tie.Need-build-requires
 build-requires c κs = search needs

@@ -1,9 +1,9 @@
--- `search::measure` meets its contract: an index changes no word of the sequences.
+-- `passes::measure` meets its contract: an index changes no word of the sequences.
 -- Assumes nothing.
-use Rattle.search.proofs.Passes.{measured-built}
+use Rattle.passes.proofs.Passes.{measured-built}
 use borrow.Author.Needs.{needs}
-use Rattle.search.proofs.measure.Statement.{statement}
-use Rattle.search.proofs.measure.Tie as tie
+use Rattle.passes.proofs.measure.Statement.{statement}
+use Rattle.passes.proofs.measure.Tie as tie
 
 build-requires : tie.Need-build-requires
 build-requires c κs = search needs

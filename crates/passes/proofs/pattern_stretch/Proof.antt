@@ -1,9 +1,9 @@
--- `search::pattern_stretch` meets its contract: the part is the pattern.
+-- `passes::pattern_stretch` meets its contract: the part is the pattern.
 -- Assumes nothing.
-use Rattle.search.proofs.Stretches.{stretch-pattern}
+use Rattle.passes.proofs.Stretches.{stretch-pattern}
 use borrow.Author.Needs.{needs}
-use Rattle.search.proofs.pattern_stretch.Statement.{statement}
-use Rattle.search.proofs.pattern_stretch.Tie as tie
+use Rattle.passes.proofs.pattern_stretch.Statement.{statement}
+use Rattle.passes.proofs.pattern_stretch.Tie as tie
 
 sub-longest-stretch : tie.Need-sub-longest-stretch
 sub-longest-stretch c = search needs

@@ -1,9 +1,9 @@
--- `search::longest_stretch` meets its contract: at the head of each turn no run from i on is longer than the longest stretch so far.
+-- `passes::longest_stretch` meets its contract: at the head of each turn no run from i on is longer than the longest stretch so far.
 -- Assumes nothing.
-use Rattle.search.proofs.Stretches.{Stretching, stretching-none, stretching-more, stretching-fits, stretching-all}
+use Rattle.passes.proofs.Stretches.{Stretching, stretching-none, stretching-more, stretching-fits, stretching-all}
 use borrow.Author.Needs.{needs}
-use Rattle.search.proofs.longest_stretch.Statement.{statement}
-use Rattle.search.proofs.longest_stretch.Tie as tie
+use Rattle.passes.proofs.longest_stretch.Statement.{statement}
+use Rattle.passes.proofs.longest_stretch.Tie as tie
 
 abbrev Inv-loop : tie.InvT-loop
 Inv-loop words most₀ free₀ i₀ most free i = Stretching words i free most

@@ -1,16 +1,17 @@
--- `search::later_passes` meets its contract: at the head of each turn nothing as long as s is left, and no run is longer than the stretch.
+-- `passes::later_passes` meets its contract: at the head of each turn nothing as long as the search length is left, and no run is longer than the
+-- stretch.
 -- Assumes nothing.
 use borrow.Author.Tests.{leb-false}
-use Rattle.search.proofs.Passes.{Resting, resting-none, resting-set, resting-more, resting-least, resting-short}
+use Rattle.passes.proofs.Passes.{Resting, resting-none, resting-fits, resting-ranges, resting-more, resting-least, resting-short}
 use borrow.Author.Needs.{needs}
-use Rattle.search.proofs.later_passes.Statement.{statement}
-use Rattle.search.proofs.later_passes.Tie as tie
+use Rattle.passes.proofs.later_passes.Statement.{statement}
+use Rattle.passes.proofs.later_passes.Tie as tie
 
 abbrev Inv-loop : tie.InvT-loop
-Inv-loop ws₀ job first hashing tiles₀ sum₀ s₀ stretch₀ ws tiles sum s stretch = Resting job (hashing .buckets) ws₀ tiles₀ sum₀ ws tiles sum s stretch
+Inv-loop ws₀ tiles₀ sum₀ now₀ stretch₀ ws tiles sum now stretch = Resting now₀ ws₀ tiles₀ sum₀ ws tiles sum now stretch
 
 abbrev μ-loop : tie.MeasureT-loop
-μ-loop ws₀ job first hashing tiles₀ sum₀ s₀ stretch₀ ws tiles sum s stretch = s
+μ-loop ws₀ tiles₀ sum₀ now₀ stretch₀ ws tiles sum now stretch = now .s
 
 pattern-stretch-requires : tie.Need-pattern-stretch-requires Inv-loop μ-loop
 pattern-stretch-requires c κs = search needs
@@ -18,11 +19,11 @@ pattern-stretch-requires c κs = search needs
 loop-holds : tie.Need-loop-holds Inv-loop μ-loop
 loop-holds c = search resting-none
 
-next-length-requires : tie.Need-next-length-requires Inv-loop μ-loop
-next-length-requires c κs = search needs
+next-pass-requires : tie.Need-next-pass-requires Inv-loop μ-loop
+next-pass-requires c κs = search needs
 
 later-pass-requires : tie.Need-later-pass-requires Inv-loop μ-loop
-later-pass-requires c κs = (search needs, search resting-set)
+later-pass-requires c κs = (search resting-fits, search resting-ranges)
 
 pattern-stretch-requires-2 : tie.Need-pattern-stretch-requires-2 Inv-loop μ-loop
 pattern-stretch-requires-2 c κs = search needs
@@ -59,7 +60,7 @@ later-passes-spec =
     μ-loop
     pattern-stretch-requires
     loop-holds
-    next-length-requires
+    next-pass-requires
     later-pass-requires
     pattern-stretch-requires-2
     loop-less

@@ -1,9 +1,9 @@
--- `search::stretch_at` meets its contract: it goes by whether the word is a call.
+-- `passes::stretch_at` meets its contract: it goes by whether the word is a call.
 -- Assumes nothing.
-use Rattle.search.proofs.Stretches.{stretch-call, stretch-none}
+use Rattle.passes.proofs.Stretches.{stretch-call, stretch-none}
 use borrow.Author.Needs.{needs}
-use Rattle.search.proofs.stretch_at.Statement.{statement}
-use Rattle.search.proofs.stretch_at.Tie as tie
+use Rattle.passes.proofs.stretch_at.Statement.{statement}
+use Rattle.passes.proofs.stretch_at.Tie as tie
 
 is-call-requires : tie.Need-is-call-requires
 is-call-requires c κs = search needs

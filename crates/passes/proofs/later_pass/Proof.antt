@@ -1,15 +1,15 @@
--- `search::later_pass` meets its contract: the bounds are filled, and every tile as long as the search length is laid.
+-- `passes::later_pass` meets its contract: the bounds are filled, and every tile as long as the search length is laid.
 -- Assumes nothing.
-use Rattle.search.proofs.Passes.{later-ready, later-searching, later-over}
+use Rattle.passes.proofs.Passes.{later-ready, later-over}
 use borrow.Author.Needs.{needs}
-use Rattle.search.proofs.later_pass.Statement.{statement}
-use Rattle.search.proofs.later_pass.Tie as tie
+use Rattle.passes.proofs.later_pass.Statement.{statement}
+use Rattle.passes.proofs.later_pass.Tie as tie
 
 prepare-requires : tie.Need-prepare-requires
 prepare-requires c κs = search needs
 
 lay-levels-requires : tie.Need-lay-levels-requires
-lay-levels-requires c κs = (search later-ready, search later-searching, search needs)
+lay-levels-requires c κs = (search later-ready, search needs, search needs, search needs)
 
 same-length : tie.Need-same-length
 same-length c = search needs

@@ -1,0 +1,35 @@
+-- `passes::tile_all` meets its contract: what the first pass and the later ones lay follows one another.
+-- Assumes nothing.
+use Rattle.passes.proofs.Passes.{first-fits, first-ranges, first-short, all-passes}
+use borrow.Author.Needs.{needs}
+use Rattle.passes.proofs.tile_all.Statement.{statement}
+use Rattle.passes.proofs.tile_all.Tie as tie
+
+first-pass-requires : tie.Need-first-pass-requires
+first-pass-requires c κs = search needs
+
+at-length-requires : tie.Need-at-length-requires
+at-length-requires c κs = search needs
+
+later-passes-requires : tie.Need-later-passes-requires
+later-passes-requires c κs = (search first-fits, search first-ranges, search first-short)
+
+same-length : tie.Need-same-length
+same-length c = search needs
+
+same-length-2 : tie.Need-same-length-2
+same-length-2 c = search needs
+
+returns : tie.Need-returns
+returns c = search all-passes
+
+pub tile-all-spec : {M : Type 1} → statement M
+tile-all-spec =
+    tie.close
+    (tie.spec
+    first-pass-requires
+    at-length-requires
+    later-passes-requires
+    same-length
+    same-length-2
+    returns)
