@@ -145,12 +145,7 @@ fn link_window(
 }
 
 // Links the text's windows by bucket, from right to left, so that each chain rises.
-fn link_windows(
-    ws: &mut [u32],
-    pass: Pass,
-    heads: &mut [u32; 1024],
-    seen: &mut [bool; 16384],
-)
+fn link_windows(ws: &mut [u32], pass: Pass, heads: &mut [u32; 1024], seen: &mut [bool; 16384])
     requires { ⌜ Space (pass .job) (now ws) × Ranges pass × (now heads ≡ replicate 1024 2048) ⌝ }
     ensures { λ r. ⌜ Linked pass (now (ws .entry)) (now (ws .exit)) (now (heads .exit)) (now (seen .exit)) ⌝ }
 {

@@ -175,12 +175,7 @@ fn fill_rows(ws: &mut [u32], pass: Pass, heads: &[u32; 1024], seen: &[bool; 1638
 }
 
 // Sets the bounds of all rows, and answers the greatest.
-pub fn fill_bounds(
-    ws: &mut [u32],
-    pass: Pass,
-    heads: &[u32; 1024],
-    seen: &[bool; 16384],
-) -> usize
+pub fn fill_bounds(ws: &mut [u32], pass: Pass, heads: &[u32; 1024], seen: &[bool; 16384]) -> usize
     requires { ⌜ Space (pass .job) (now ws) × Indexed pass (now ws) (now heads) (now seen) × Ranges pass ⌝ }
     ensures { λ r. ⌜ FilledRows pass (now (heads .entry)) (now (seen .entry)) (now (ws .entry)) (now (ws .exit)) ⌝ }
     ensures { λ r. ⌜ Greatest (bound (pass .job) (now (ws .exit))) (pass .job .n) r ⌝ }

@@ -1,4 +1,2 @@
-pub mod Passes
-pub mod Stretches
 pub mod Accepted
 pub mod Laws

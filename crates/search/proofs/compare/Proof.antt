@@ -1,7 +1,9 @@
--- `search::compare` meets its contract: it branches once, on the refusal's number; where that is 0 the tiles are listed, and the whole workspace is cleared on the one way out.
+-- `search::compare` meets its contract: it branches once, on the refusal's number; where that is 0 the tiles are laid between the two ends, of which the
+-- second clears the whole workspace.
 -- Assumes nothing.
-use Rattle.sweep.proofs.Outcome.{compare-refused, compare-accepted}
-use Rattle.search.proofs.Accepted.{checked, set, total-fits}
+use Rattle.ends.proofs.Opening.{few-tiles, few-covered}
+use Rattle.ends.proofs.Closing.{compare-refused}
+use Rattle.search.proofs.Accepted.{fast-room, fast-fits, fast-ranges, fast-answers}
 use borrow.Author.Needs.{needs}
 use Rattle.search.proofs.compare.Statement.{statement}
 use Rattle.search.proofs.compare.Tie as tie
@@ -9,26 +11,23 @@ use Rattle.search.proofs.compare.Tie as tie
 fast-refusal-requires : tie.Need-fast-refusal-requires
 fast-refusal-requires c κs = search needs
 
+refused-requires : tie.Need-refused-requires
+refused-requires c κs = search needs
+
 returns : tie.Need-returns
 returns c = search compare-refused
 
-tile-sides-requires : tie.Need-tile-sides-requires
-tile-sides-requires c κs = (search checked, search set)
+open-requires : tie.Need-open-requires
+open-requires c κs = search fast-room
 
-mark-words-requires : tie.Need-mark-words-requires
-mark-words-requires c κs = search needs
+cast-t13 : tie.Need-cast-t13
+cast-t13 c = search needs
 
-cast-t23 : tie.Need-cast-t23
-cast-t23 c = search needs
+tile-all-requires : tie.Need-tile-all-requires
+tile-all-requires c κs = (search fast-fits, search fast-ranges)
 
-cast-t24 : tie.Need-cast-t24
-cast-t24 c = search needs
-
-add-score-of : tie.Need-add-score-of
-add-score-of c = search needs
-
-score-of-requires : tie.Need-score-of-requires
-score-of-requires c κs = (search needs, search total-fits)
+close-requires : tie.Need-close-requires
+close-requires c κs = (search few-tiles, search few-covered, search needs, search needs)
 
 same-length : tie.Need-same-length
 same-length c = search needs
@@ -37,20 +36,19 @@ same-length-2 : tie.Need-same-length-2
 same-length-2 c = search needs
 
 returns-2 : tie.Need-returns-2
-returns-2 c = search compare-accepted
+returns-2 c = search fast-answers
 
 pub compare-spec : {M : Type 1} → statement M
 compare-spec =
     tie.close
     (tie.spec
     fast-refusal-requires
+    refused-requires
     returns
-    tile-sides-requires
-    mark-words-requires
-    cast-t23
-    cast-t24
-    add-score-of
-    score-of-requires
+    open-requires
+    cast-t13
+    tile-all-requires
+    close-requires
     same-length
     same-length-2
     returns-2)
