@@ -12,7 +12,7 @@ use Rattle.symbol.specs.Word.{isCall}
 use Rattle.tiling.specs.Tally.{tally}
 use Rattle.buffer.specs.Buffer.{onto}
 use Rattle.tiling.specs.Tiling.{best, size, lay, start, tiling}
-use Rattle.tiling.proofs.Greedy.{Greedy}
+use Rattle.tiling.specs.Greedy.{Greedy}
 use Rattle.tiling.proofs.Best.{best-is}
 use Rattle.tile.specs.Listed.{listed}
 use Rattle.sweep.specs.Workspace.{state, bound}

@@ -15,7 +15,8 @@ use Rattle.buffer.specs.Buffer.{onto}
 use Rattle.tiling.specs.Tiling.{start, best, size, lay, tiling}
 use Rattle.tiling.specs.Listing.{firstIsPattern, listing, tileWords, covered}
 use Rattle.tiling.proofs.Tally.{tally-length}
-use Rattle.tiling.proofs.Greedy.{Greedy, done, only}
+use Rattle.tiling.specs.Greedy.{Greedy, done}
+use Rattle.tiling.proofs.Greedy.{only}
 use Rattle.tiling.proofs.Tiling.{tiling-greedy}
 use Rattle.tile.specs.Listed.{listed}
 use Rattle.sweep.specs.Workspace.{Space, state}

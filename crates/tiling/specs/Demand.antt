@@ -20,6 +20,11 @@ pub record Covers (start len j : ℕ) : Type 0 where
 abbrev pub Free : {K : Type 0} → (K → ℕ) → (K → ℕ) → List K → ℕ → Type 0
 Free start len tiles j = Each (λ k. Covers (start k) (len k) j → ⊥) tiles
 
+-- What stands at j in ys, which is xs with the words of the tiles marked: "its words on both strands are marked", and no others.
+pub record Left {K : Type 0} (start len : K → ℕ) (tiles : List K) (xs ys : List ℕ) (j : ℕ) : Type 0 where
+  pub kept : Free start len tiles j → getD ys j 0 ≡ getD xs j 0
+  pub zero : (Free start len tiles j → ⊥) → getD ys j 0 ≡ 0
+
 -- No position is covered by both tiles.
 abbrev pub Apart : {K : Type 0} → (K → ℕ) → (K → ℕ) → K → K → Type 0
 Apart start len k l = (j : ℕ) → Covers (start k) (len k) j → Covers (start l) (len l) j → ⊥
