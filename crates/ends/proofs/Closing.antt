@@ -10,6 +10,7 @@ use Rattle.symbol.proofs.Refusal.{kept, given}
 use Rattle.buffer.specs.Buffer.{onto}
 use Rattle.tiling.specs.Run.{mark}
 use Rattle.tiling.specs.Listing.{Entry, listing, tileWords, covered, score}
+use Rattle.tiling.specs.Comparing.{Comparable, Roomy}
 use Rattle.tiling.specs.Answer.{Compares}
 use Rattle.tiling.specs.declared.Compared.{Compared}
 use Rattle.tile.proofs.Marking.{mark-all}
@@ -17,7 +18,6 @@ use Rattle.sweep.specs.Progress.{Finished}
 use Rattle.sweep.specs.declared.Job.{Job}
 use Rattle.sweep.specs.declared.Totals.{Totals}
 use Rattle.ends.specs.Ends.{Opened, noTiles, refusedBy, Closed}
-use Rattle.ends.specs.Result.{Checked}
 use Rattle.ends.proofs.Opening.{chosen-lengths, all-listed}
 
 -- Every word of the workspace marked, and the numbers of the tiles.
@@ -42,9 +42,9 @@ module _ (first second : List ℕ) (minimum : ℕ) (ws b : List ℕ) (r q : ℕ)
         workspace = kept r q e (replicate (length ws) 0) ws d;
       }
 
-  pub compare-accepted : r ≡ 0 → Checked (length first) (length second) minimum (length ws) (length b) → (j : Job) (ws₁ : List ℕ) → Opened first second minimum ws j ws₁ → (ws₂ b' : List ℕ) (k : Totals) → Finished j (j .minimum) ws₁ b noTiles ws₂ b' k → length ws₁ ≡ length ws → length ws₂ ≡ length ws₁ → (a : Compared) (ws₃ : List ℕ) → Closed j k ws₂ a ws₃ → Compares q first second minimum ws b a ws₃ b'
-  compare-accepted z c j ws₁ o ws₂ b' k f opened tiled a ws₃ d =
-      let l = all-listed first second minimum ws b c j ws₁ o ws₂ b' k f in
+  pub compare-accepted : r ≡ 0 → Comparable first second minimum → Roomy (length first) (length second) minimum (length ws) (length b) → (j : Job) (ws₁ : List ℕ) → Opened first second minimum ws j ws₁ → (ws₂ b' : List ℕ) (k : Totals) → Finished j (j .minimum) ws₁ b noTiles ws₂ b' k → length ws₁ ≡ length ws → length ws₂ ≡ length ws₁ → (a : Compared) (ws₃ : List ℕ) → Closed j k ws₂ a ws₃ → Compares q first second minimum ws b a ws₃ b'
+  compare-accepted z c room j ws₁ o ws₂ b' k f opened tiled a ws₃ d =
+      let l = all-listed first second minimum ws b c room j ws₁ o ws₂ b' k f in
       let total : j .n + j .m ≡ length first + length second =
       omega (arith, ap (λ x. x .n) (o .job), ap (λ x. x .m) (o .job), chosen-lengths first second .together) in
       let t : k .count ≡ outcome q (length tiles) 0 = given r q e (k .count) (length tiles) 0 z (l .counted) in

@@ -15,9 +15,11 @@ use Rattle.symbol.specs.Word.{isCall}
 use Rattle.buffer.specs.Buffer.{onto}
 use Rattle.buffer.proofs.Buffer.{onto-part}
 use Rattle.tiling.specs.Tiling.{start, best, size, lay, tiling}
+use Rattle.tiling.specs.Greedy.{Greedy, done}
+use Rattle.tiling.specs.Comparing.{Comparable, Roomy}
 use Rattle.tiling.specs.Listing.{firstIsPattern, listing, tileWords, covered}
 use Rattle.tiling.proofs.Tally.{tally-length}
-use Rattle.tiling.proofs.Greedy.{Greedy, done, only}
+use Rattle.tiling.proofs.Greedy.{only}
 use Rattle.tiling.proofs.Tiling.{tiling-greedy}
 use Rattle.tile.specs.Listed.{listed}
 use Rattle.sweep.specs.Workspace.{Space, state}
@@ -25,7 +27,7 @@ use Rattle.sweep.specs.Progress.{Fits, Laid, Finished}
 use Rattle.sweep.specs.declared.Job.{Job}
 use Rattle.sweep.specs.declared.Totals.{Totals}
 use Rattle.ends.specs.Ends.{patternOf, textOf, Opened, noTiles}
-use Rattle.ends.specs.Result.{Checked, Listed}
+use Rattle.ends.specs.Result.{Listed}
 
 -- ---- copying in
 pub copied-in : (pattern text ws ws₁ part : List ℕ) → ws₁ ≡ onto pattern ws → part ≡ onto text (take (length pattern + length text - length pattern) (drop (length pattern) ws₁)) → take (length pattern) ws₁ ++ (part ++ drop (length pattern + length text - length pattern) (drop (length pattern) ws₁)) ≡ onto (pattern ++ text) ws
@@ -91,7 +93,7 @@ copied-state pattern text j n m ws = λ i. record { pattern = on-pattern i; text
     on-text : take (j .m) (drop (j .n) (onto (pattern ++ text) ws)) ≡ text
     on-text = rw (whole, drop-at pattern (text ++ rest) (j .n) (sym n)) (take-at text rest (j .m) (sym m))
 
-module _ (first second : List ℕ) (minimum : ℕ) (ws b : List ℕ) (c : Checked (length first) (length second) minimum (length ws) (length b)) where
+module _ (first second : List ℕ) (minimum : ℕ) (ws b : List ℕ) (c : Comparable first second minimum) (room : Roomy (length first) (length second) minimum (length ws) (length b)) where
   abbrev pattern : List ℕ
   pattern = patternOf first second
 
@@ -99,7 +101,7 @@ module _ (first second : List ℕ) (minimum : ℕ) (ws b : List ℕ) (c : Checke
   text = textOf first second
 
   pub open-room : length first + length second ≤ length ws
-  open-room = omega (arith, c .work-room)
+  open-room = omega (arith, room .work-room)
 
   module _ (j : Job) (ws₁ : List ℕ) (o : Opened first second minimum ws j ws₁) where
     -- Nothing is laid, so everything fits.
@@ -108,10 +110,10 @@ module _ (first second : List ℕ) (minimum : ℕ) (ws b : List ℕ) (c : Checke
         let l = chosen-lengths first second in
         rw (o .job)
         (record {
-          space = record { short-pattern = omega (arith, l .shorter, c .short-first); short-text = omega (arith, l .shorter, l .together, c .short-first, c .short-second); roomy = omega (arith, l .together, c .work-room, same) };
+          space = record { short-pattern = omega (arith, l .shorter, c .first-short); short-text = omega (arith, l .shorter, l .together, c .first-short, c .second-short); roomy = omega (arith, l .together, room .work-room, same) };
           least = c .least;
           most = c .most;
-          tile-room = rw (l .shorter) (c .tile-room);
+          tile-room = rw (l .shorter) (room .tile-room);
           each = omega arith;
           free = omega (arith, tally-length isCall (take (length pattern) ws₁), length-take (length pattern) ws₁);
         })

@@ -13,8 +13,9 @@ use borrow.Author.Tests.{le-ltb, ne-eqb}
 use Rattle.symbol.specs.Sequence.{allSound}
 use Rattle.buffer.specs.Buffer.{onto}
 use Rattle.record.specs.Format.{header, idOf, trailer, encode}
-use Rattle.record.specs.Reading.{head, count, sequence, closes, readRefusal, readAnswer, readBuffer}
+use Rattle.record.specs.Reading.{head, count, sequence, closes, readRefusal, readBuffer}
 use Rattle.record.specs.Writing.{writeRefusal, writeBuffer}
+use Rattle.record.specs.RoundTrip.{rewritten, Rewritten, Reread, Unread}
 use Rattle.record.proofs.Format.{id-header, count-header, kind-header, header-parts, id-small}
 use Rattle.record.proofs.Reading.{take-head, closes-trailer, trailer-closes, Accepted, accepted, read-accepts}
 use Rattle.record.proofs.Writing.{writable, write-accepts}
@@ -78,16 +79,6 @@ encoded id s rest room small short sound fits =
     }
 
 -- ---- read, then write
--- What comes of writing what was read from src, by way of buffer, to out.
-abbrev pub rewritten : List ℕ → List ℕ → List ℕ → List ℕ
-rewritten src buffer out = writeBuffer (idOf (head src)) (take (count src) (readBuffer src buffer)) out
-
-pub record Rewritten (src buffer out : List ℕ) : Type 0 where
-  pub id-fits : idOf (head src) < 2 ^ 16
-  pub accepts : writeRefusal (take (count src) (readBuffer src buffer)) (length out) ≡ 0
-  pub same : take (count src + 2) (rewritten src buffer out) ≡ take (count src + 2) src
-  pub beyond : drop (count src + 2) (rewritten src buffer out) ≡ drop (count src + 2) out
-
 -- A record that was read, when written, is again the words that it was read from, wherever there is room for them; words beyond them stay.
 pub read-then-write : (src buffer out : List ℕ) → readRefusal src (length buffer) ≡ 0 → count src + 2 ≤ length out → Rewritten src buffer out
 read-then-write src buffer out e room =
@@ -110,10 +101,6 @@ read-then-write src buffer out e room =
     }
 
 -- ---- write, then read
-pub record Reread (id : ℕ) (s buffer out : List ℕ) : Type 0 where
-  pub answer : readAnswer (writeBuffer id s buffer) (length out) ≡ record { refusal = 0; id = id; count = length s; used = length s + 2 }
-  pub copied : readBuffer (writeBuffer id s buffer) out ≡ onto s out
-
 -- A record that was written is read back with its id, its count and its words, wherever there is room for them.
 pub write-then-read : (id : ℕ) (s buffer out : List ℕ) → id < 2 ^ 16 → writeRefusal s (length buffer) ≡ 0 → length s ≤ length out → Reread id s buffer out
 write-then-read id s buffer out small e room =
@@ -127,11 +114,6 @@ write-then-read id s buffer out small e room =
     }
 
 -- ---- the words after a record
-pub record Unread (src rest : List ℕ) : Type 0 where
-  pub refusal : (room : ℕ) → readRefusal (src ++ rest) room ≡ readRefusal src room
-  pub answer : (room : ℕ) → readAnswer (src ++ rest) room ≡ readAnswer src room
-  pub copied : (buffer : List ℕ) → readBuffer (src ++ rest) buffer ≡ readBuffer src buffer
-
 -- Words after the trailer do not matter.
 pub tail-unread : (src rest : List ℕ) → count src + 2 ≤ length src → Unread src rest
 unfolding closes

@@ -9,12 +9,13 @@ use mathlib.Core.List.{List}
 use lib.ListN.{length}
 use borrow.Author.Tests.{le-ltb}
 use Rattle.symbol.proofs.Refusal.{outcome-refused, outcome-accepted}
-use Rattle.tiling.specs.Each.{Each, none, also}
+use Rattle.tiling.specs.Each.{Each}
 use Rattle.tiling.specs.Comparing.{fastRefusal}
 use Rattle.tiling.specs.Listing.{Entry, listing}
 use Rattle.tiling.specs.Demand.{Stands, tilesIn}
 use Rattle.tiling.specs.declared.Compared.{Compared}
-use Rattle.tiling.proofs.Comparing.{fast-minimum}
+use Rattle.tiling.proofs.Comparing.{comparable}
+use Rattle.tiling.proofs.Each.{each-both}
 use Rattle.tiling.proofs.Answers.{answers-number, answers-listed, answers-tiles, answers-covered, answers-score, answers-tiled}
 use Rattle.tiling.proofs.Demand.{tiles-fit}
 use Rattle.search.specs.Promise.{Fast}
@@ -31,10 +32,7 @@ room-enough first second (suc m) f s =
 
 -- A tile that lies in both sequences and has a word or more starts below their lengths.
 starts-below : {first second : List ℕ} {minimum : ℕ} {tiles : List Entry} → length first ≤ 2048 → length second ≤ 2048 → 1 ≤ minimum → Each (Stands first second) tiles → Each (λ e. minimum ≤ e .len) tiles → Each Starts tiles
-starts-below f s one none none = none
-starts-below f s one (also {x = e} x xs) (also y ys) =
-    let below : Starts e = record { first = omega (arith, x .in-first); second = omega (arith, x .in-second) } in
-    also below (starts-below f s one xs ys)
+starts-below f s one = each-both (λ e x y. record { first = omega (arith, x .in-first); second = omega (arith, x .in-second) })
 
 -- ---- the search with the program's settings
 module _ {first second : List ℕ} {minimum start : ℕ} {ws b : List ℕ} {a : Compared} {ws' b' : List ℕ} (fast : Fast first second minimum 256 start ws b a ws' b') (f : length first ≤ 2048) (s : length second ≤ 2048) (start-is : start ≡ max 20 minimum) (work : length ws ≡ 16384) (space : length b ≡ 6144) (same : length b' ≡ length b) where
@@ -46,7 +44,7 @@ module _ {first second : List ℕ} {minimum start : ℕ} {ws b : List ℕ} {a : 
 
   laid : a .refusal ≡ 0 → Laid (length first) (length second) a b'
   laid z =
-      let one : 1 ≤ minimum = fast-minimum first second minimum 256 start (length ws) (length b) (answers-number fast z) in
+      let one : 1 ≤ minimum = comparable first second minimum _ (answers-number fast z) .least in
       let t = answers-tiled fast z one in
       let n = min (length first) (length second) in
       let counted : a .tiles ≡ length (listing first second minimum) = answers-tiles fast z ∙ ap length (answers-listed fast z) in

@@ -14,14 +14,14 @@ use lib.Seq.{getD-set-same, getD-set-other, getD-drop}
 use Rattle.symbol.specs.Word.{isCall}
 use Rattle.buffer.specs.Buffer.{onto}
 use Rattle.tiling.specs.Run.{run, mark}
-use Rattle.tiling.specs.Tiling.{Tile, State, runAt, best, size, lay}
+use Rattle.tiling.specs.Tiling.{Tile, State, runAt, best, Best, Lies, size, lay}
 use Rattle.tiling.specs.Listing.{tileWords, covered}
 use Rattle.tiling.proofs.Run.{zero-left, mark-inside}
 use Rattle.tiling.specs.Tally.{tally}
-use Rattle.tiling.proofs.Greedy.{Greedy, more}
-use Rattle.tiling.proofs.Best.{Best, best-is, best-only, past-pattern}
+use Rattle.tiling.specs.Greedy.{Greedy, more}
+use Rattle.tiling.proofs.Best.{best-is, best-only, past-pattern}
 use Rattle.tiling.proofs.Marked.{lay-shrinks}
-use Rattle.tiling.proofs.Tiling.{Lies, best-lies, zero-no-call, takes-tile}
+use Rattle.tiling.proofs.Tiling.{best-lies, zero-no-call, takes-tile}
 use Rattle.tile.specs.Listed.{listed}
 use Rattle.tile.proofs.Measure.{run-most}
 use Rattle.tile.proofs.Tail.{covered-append, length-listed, listed-more}

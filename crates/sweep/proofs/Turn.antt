@@ -17,7 +17,7 @@ use Rattle.sweep.specs.declared.Totals.{Totals}
 use Rattle.symbol.specs.Word.{isCall}
 use Rattle.tiling.specs.Tally.{tally}
 use Rattle.tiling.specs.Tiling.{best, size, lay}
-use Rattle.tiling.proofs.Greedy.{Greedy}
+use Rattle.tiling.specs.Greedy.{Greedy}
 use Rattle.tiling.proofs.Best.{best-is}
 use Rattle.sweep.proofs.Step.{below-level}
 use Rattle.sweep.proofs.Most.{greatest-below}

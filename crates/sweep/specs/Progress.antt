@@ -8,7 +8,7 @@ use Rattle.buffer.specs.Buffer.{onto}
 use Rattle.tiling.specs.Tiling.{Tile, State, runAt, best, size, lay}
 use Rattle.tiling.specs.Listing.{tileWords, covered}
 use Rattle.tiling.specs.Tally.{tally}
-use Rattle.tiling.proofs.Greedy.{Greedy}
+use Rattle.tiling.specs.Greedy.{Greedy}
 use Rattle.tile.specs.Listed.{listed}
 use Rattle.sweep.specs.Workspace.{Space, state, bound}
 use Rattle.sweep.specs.Row.{Row}

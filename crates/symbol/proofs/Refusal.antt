@@ -16,6 +16,12 @@ refused t n later e = rw e
 pub passed : (t : Bool) (r n later : ℕ) → t ≡ false → r ≡ later → r ≡ refuse t n later
 passed t r n later e k = rw e k
 
+-- Of two causes with one number it does not matter which is asked first.
+pub refuse-swap : (s t : Bool) (n later : ℕ) → refuse s n (refuse t n later) ≡ refuse t n (refuse s n later)
+refuse-swap true true n later = refl
+refuse-swap true false n later = refl
+refuse-swap false t n later = refl
+
 -- What an accepted chain says of its first cause and of the later ones.
 pub record Clear (t : Bool) (later : ℕ) : Type 0 where
   pub first : t ≡ false

@@ -6,7 +6,7 @@ use mathlib.Core.Path.{_≡_, refl, sym, _∙_}
 use mathlib.Core.Bool.{Bool, true, false, _&&_, and-false}
 use lib.Dec.{eqb, leb, ltb}
 use borrow.Author.Tests.{eq-eqb, ne-eqb, lt-ltb, le-ltb, lt-leb, eqb-true, eqb-false, ltb-true, ltb-false}
-use Rattle.symbol.specs.Word.{kind, low, code, isCall, isNoCall, isSound, matches}
+use Rattle.symbol.specs.Word.{kind, low, code, isCall, Call, isNoCall, isSound, matches}
 
 -- ---- a conjunction of tests
 pub and-both : {a b : Bool} → a ≡ true → b ≡ true → (a && b) ≡ true
@@ -36,10 +36,6 @@ call-above w h = go (eqb (kind w) 1) refl
     go : (b : Bool) → eqb (kind w) 1 ≡ b → isCall w ≡ false
     go true e = let one : kind w ≡ 1 = eqb-true _ _ e in rw (e, le-ltb (low w) (2 ^ 16) (omega arith))
     go false e = rw e
-
-pub record Call (w : ℕ) : Type 0 where
-  pub least : 2 ^ 30 ≤ w
-  pub most : w < 2 ^ 30 + 2 ^ 16
 
 pub call-range : (w : ℕ) → isCall w ≡ true → Call w
 unfolding isCall kind low

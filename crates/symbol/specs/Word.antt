@@ -1,5 +1,5 @@
 -- What a word is, and when two words match. A word is a number; every definition is total, so it says what holds of any 32 bits.
-use Prim.Native.Nat.{ℕ, _/_, _%_, _^_}
+use Prim.Native.Nat.{ℕ, _+_, _/_, _%_, _^_, _≤_, _<_}
 use mathlib.Core.Bool.{Bool, _&&_, _||_}
 use lib.Dec.{eqb, ltb}
 
@@ -14,6 +14,11 @@ low w = w % 2 ^ 30
 -- "Kind 1, call: bits 15 to 0 a motif code, bits 29 to 16 zero."
 unfoldable pub isCall : ℕ → Bool
 isCall w = eqb (kind w) 1 && ltb (low w) (2 ^ 16)
+
+-- The same as a range of numbers.
+pub record Call (w : ℕ) : Type 0 where
+  pub least : 2 ^ 30 ≤ w
+  pub most : w < 2 ^ 30 + 2 ^ 16
 
 -- The motif code of a call.
 unfoldable pub code : ℕ → ℕ

@@ -1,18 +1,21 @@
--- Demand 3 of what an accepted comparison answers and leaves in the tile buffer, whichever engine made it: the tiles read back from the
--- buffer are the listing, so all that holds of the listing holds of them.
+-- Demand 3 of what a comparison answers and leaves in the tile buffer, whichever engine made it: the tiles read back from the buffer are the
+-- listing, and none after a refusal, so all that holds of the listing holds of them.
 -- Assumes nothing.
-use Prim.Native.Nat.{ℕ, _+_, _≤_, _^_}
+use Prim.Native.Nat.{ℕ, zero, suc, _+_, _≤_, _^_}
 use native.Mathlib.Omega.{arith}
 use mathlib.Core.Path.{_≡_, refl, sym, _∙_, ap}
 use mathlib.Core.List.{List, [], _∷_, _++_, map}
 use lib.ListN.{length, drop, replicate}
+use Rattle.symbol.specs.Refusal.{outcome}
 use Rattle.buffer.specs.Buffer.{onto}
+use Rattle.tiling.specs.Each.{Each}
 use Rattle.tiling.specs.Greedy.{Begins}
 use Rattle.tiling.specs.Listing.{Entry, listing, tileWords, covered, score}
 use Rattle.tiling.specs.declared.Compared.{Compared}
-use Rattle.tiling.specs.Answer.{compared, Compares}
-use Rattle.tiling.specs.Demand.{FreeRun, long, smallerCounts, exchanged, tilesIn, tilesOf, Tiled, Exchanges}
+use Rattle.tiling.specs.Answer.{compared, tileBuffer, Compares}
+use Rattle.tiling.specs.Demand.{FreeRun, long, Shifted, smallerCounts, exchanged, tilesIn, tilesOf, Tiled, Exchanges}
 use Rattle.tiling.proofs.Demand.{listing-tiled, listing-begins, exchange, exchange-count, exchange-covered, exchange-score}
+use Rattle.tiling.proofs.Shift.{tiled-shift}
 
 -- Tiles written to the start of a buffer are read back.
 tiles-back : (es : List Entry) (rest : List ℕ) → tilesIn (length es) (tileWords es ++ rest) ≡ es
@@ -23,6 +26,17 @@ tiles-back (e ∷ es) rest = ap (λ xs. e ∷ xs) (tiles-back es rest)
 pub tiles-read : (es : List Entry) (b : List ℕ) → tilesIn (length es) (onto (tileWords es) b) ≡ es
 tiles-read es b = tiles-back es (drop (length (tileWords es)) b)
 
+-- ---- a comparison, accepted or refused
+listed-of : (r : ℕ) (tiles : List Entry) (total : ℕ) (b : List ℕ) → tilesOf (compared r tiles total) (tileBuffer r tiles b) ≡ outcome r tiles []
+unfolding tilesIn
+listed-of zero tiles total b = tiles-read tiles b
+listed-of (suc r) tiles total b = refl
+
+module _ {r : ℕ} {first second : List ℕ} {minimum : ℕ} {ws b : List ℕ} {a : Compared} {ws' b' : List ℕ} (c : Compares r first second minimum ws b a ws' b') where
+  -- The tiles in the buffer are the listing; after a refusal there are none.
+  listed : tilesOf a b' ≡ outcome r (listing first second minimum) []
+  listed = rw (c .answer, c .tiles) (listed-of r (listing first second minimum) (length first + length second) b)
+
 -- ---- an accepted comparison
 module _ {r : ℕ} {first second : List ℕ} {minimum : ℕ} {ws b : List ℕ} {a : Compared} {ws' b' : List ℕ} (c : Compares r first second minimum ws b a ws' b') (accepted : a .refusal ≡ 0) where
   pub answers-number : r ≡ 0
@@ -31,11 +45,8 @@ module _ {r : ℕ} {first second : List ℕ} {minimum : ℕ} {ws b : List ℕ} {
   answer-is : a ≡ compared 0 (listing first second minimum) (length first + length second)
   answer-is = rw answers-number at (c .answer)
 
-  buffer-is : b' ≡ onto (tileWords (listing first second minimum)) b
-  buffer-is = rw answers-number at (c .tiles)
-
   pub answers-listed : tilesOf a b' ≡ listing first second minimum
-  answers-listed = rw (answer-is, buffer-is) (tiles-read (listing first second minimum) b)
+  answers-listed = rw answers-number at (listed c)
 
   -- The three answers are those of the tiles in the buffer, and the workspace is zero.
   pub answers-tiles : a .tiles ≡ length (tilesOf a b')
@@ -66,14 +77,24 @@ module _ {r : ℕ} {first second : List ℕ} {minimum : ℕ} {ws b : List ℕ} {
   pub answers-within-second : 1 ≤ minimum → a .covered ≤ length second
   answers-within-second one = omega (arith, answers-covered, answers-tiled one .within-second)
 
--- ---- two accepted comparisons with the sequences exchanged
-pub answers-exchange : {r r' : ℕ} {first second : List ℕ} {minimum : ℕ} {ws b ws₁ b₁ : List ℕ} {a a' : Compared} {ws' b' ws₁' b₁' : List ℕ} → Compares r first second minimum ws b a ws' b' → Compares r' second first minimum ws₁ b₁ a' ws₁' b₁' → a .refusal ≡ 0 → a' .refusal ≡ 0 → (length first ≡ length second → ⊥) → Exchanges a b' a' b₁'
-answers-exchange {first = first} {second = second} {minimum = minimum} c c' z z' d =
+  -- Each tile's shift lies between -2,047 and 2,047.
+  pub answers-shift : length first ≤ 2048 → length second ≤ 2048 → 1 ≤ minimum → Each Shifted (tilesOf a b')
+  answers-shift f s one = tiled-shift f s one (answers-tiled one)
+
+-- ---- two comparisons with the sequences exchanged
+exchanged-outcome : (r : ℕ) (tiles : List Entry) → outcome r (map exchanged tiles) [] ≡ map exchanged (outcome r tiles [])
+exchanged-outcome zero tiles = refl
+exchanged-outcome (suc r) tiles = refl
+
+-- Where the numbers of their refusals are equal, and the lengths differ, the second has the sides of each tile exchanged.
+pub answers-exchange : {r r' : ℕ} {first second : List ℕ} {minimum : ℕ} {ws b ws₁ b₁ : List ℕ} {a a' : Compared} {ws' b' ws₁' b₁' : List ℕ} → Compares r first second minimum ws b a ws' b' → Compares r' second first minimum ws₁ b₁ a' ws₁' b₁' → r' ≡ r → (length first ≡ length second → ⊥) → Exchanges a b' a' b₁'
+answers-exchange {r = r} {first = first} {second = second} {minimum = minimum} c c' e d =
     record {
-      sides = answers-listed c' z' ∙ (exchange first second minimum d ∙ ap (λ es. map exchanged es) (sym (answers-listed c z)));
-      tiles = rw (answer-is c z, answer-is c' z') (exchange-count first second minimum d);
-      covered = rw (answer-is c z, answer-is c' z') (exchange-covered first second minimum d);
-      score = rw (answer-is c z, answer-is c' z') (exchange-score first second minimum d);
+      refusal = rw (c .answer, c' .answer) e;
+      sides = listed c' ∙ (rw (e, exchange first second minimum d) (exchanged-outcome r (listing first second minimum)) ∙ ap (λ es. map exchanged es) (sym (listed c)));
+      tiles = rw (c .answer, c' .answer, e, exchange-count first second minimum d) refl;
+      covered = rw (c .answer, c' .answer, e, exchange-covered first second minimum d) refl;
+      score = rw (c .answer, c' .answer, e, exchange-score first second minimum d) refl;
     }
 
 -- ---- two accepted comparisons of one pair, at a minimum and at a greater one

@@ -7,16 +7,9 @@ use native.Mathlib.Omega.{arith}
 use mathlib.Core.Path.{_≡_, refl, sym}
 use lib.ListN.{length, drop, drop-of-length-le}
 use Rattle.tiling.specs.Run.{run}
-use Rattle.tiling.specs.Tiling.{Tile, State, runAt, bestText, rowLength, best}
+use Rattle.tiling.specs.Tiling.{Tile, State, runAt, bestText, rowLength, best, Best}
 use Rattle.tiling.proofs.Run.{run-nil}
 use Rattle.tiling.proofs.Peak.{peak-is}
-
--- "take the longest, on equal length the one with the smallest p, then the smallest t"
-pub record Best (s : State) (k : Tile) : Type 0 where
-  pub long : k .len ≡ runAt s (k .p) (k .t)
-  pub most : (p t : ℕ) → runAt s p t ≤ k .len
-  pub above : (p t : ℕ) → p < k .p → runAt s p t < k .len
-  pub before : (t : ℕ) → t < k .t → runAt s (k .p) t < k .len
 
 -- There is no run past an end.
 pub past-pattern : (s : State) (p t : ℕ) → length (s .pattern) ≤ p → runAt s p t ≡ 0

@@ -1,28 +1,29 @@
--- The chain of a comparison's refusals, part by part: what each part says where none of its causes holds, and how what the code of a part
--- answered is carried to the whole chain.
+-- The chain of a comparison's refusals, part by part: what each part says where none of its causes holds, that it then leaves the number to
+-- the later parts, and how what the code of a part answered is carried to the whole chain. Each part asks the same of both sequences, so
+-- exchanging them changes no number.
 -- Assumes nothing.
 use Prim.Native.Nat.{ℕ, _+_, _*_, _/_, _≤_, min}
 use native.Mathlib.Omega.{arith}
-use mathlib.Core.Path.{_≡_, sym, _∙_}
-use mathlib.Core.Bool.{true, not}
+use mathlib.Core.Path.{_≡_, refl, sym, _∙_, ap}
+use mathlib.Core.Bool.{true, false, not}
 use mathlib.Core.List.{List}
-use borrow.Author.Tests.{eqb-false, ltb-false, not-false}
+use borrow.Author.Tests.{eqb-false, ltb-false, not-false, le-ltb, ne-eqb}
 use lib.Dec.{eqb, ltb}
 use lib.ListN.{length}
 use Rattle.symbol.specs.Sequence.{allSound, tooLong}
 use Rattle.symbol.specs.Refusal.{refuse}
-use Rattle.symbol.proofs.Refusal.{clear, Part, part-end, part-cause, part-stops, part-goes}
-use Rattle.tiling.specs.Comparing.{sequences, minimums, settings, room, plainRefusal, fastRefusal}
+use Rattle.symbol.proofs.Refusal.{refuse-swap, clear, Part, part-end, part-cause, part-stops, part-goes}
+use Rattle.tiling.specs.Comparing.{sequences, minimums, settings, room, plainRefusal, fastRefusal, Comparable, InRange, Roomy}
 
 -- ---- no cause holds
-pub record SequencesClear (first second : List ℕ) (later : ℕ) : Type 0 where
+record SequencesClear (first second : List ℕ) (later : ℕ) : Type 0 where
   pub first-short : length first ≤ 2048
   pub second-short : length second ≤ 2048
   pub first-sound : allSound first ≡ true
   pub second-sound : allSound second ≡ true
   pub rest : later ≡ 0
 
-pub sequences-clear : (first second : List ℕ) (later : ℕ) → sequences first second later ≡ 0 → SequencesClear first second later
+sequences-clear : (first second : List ℕ) (later : ℕ) → sequences first second later ≡ 0 → SequencesClear first second later
 sequences-clear first second later e =
     let a = clear (tooLong first) 1 (refuse (tooLong second) 1 (refuse (not (allSound first)) 2 (refuse (not (allSound second)) 2 later))) (omega arith) e in
     let b = clear (tooLong second) 1 (refuse (not (allSound first)) 2 (refuse (not (allSound second)) 2 later)) (omega arith) (a .rest) in
@@ -36,12 +37,12 @@ sequences-clear first second later e =
       rest = d .rest;
     }
 
-pub record MinimumsClear (minimum later : ℕ) : Type 0 where
+record MinimumsClear (minimum later : ℕ) : Type 0 where
   pub least : 1 ≤ minimum
   pub most : minimum ≤ 256
   pub rest : later ≡ 0
 
-pub minimums-clear : (minimum later : ℕ) → minimums minimum later ≡ 0 → MinimumsClear minimum later
+minimums-clear : (minimum later : ℕ) → minimums minimum later ≡ 0 → MinimumsClear minimum later
 minimums-clear minimum later e =
     let a = clear (eqb minimum 0) 3 (refuse (ltb 256 minimum) 3 later) (omega arith) e in
     let b = clear (ltb 256 minimum) 3 later (omega arith) (a .rest) in
@@ -51,32 +52,28 @@ minimums-clear minimum later e =
       rest = b .rest;
     }
 
-pub record SettingsClear (minimum buckets start later : ℕ) : Type 0 where
-  pub some-bucket : 1 ≤ buckets
-  pub few-buckets : buckets ≤ 1024
-  pub start-least : minimum ≤ start
-  pub start-most : start ≤ 2048
+record SettingsClear (minimum buckets start later : ℕ) : Type 0 where
+  pub in-range : InRange minimum buckets start
   pub rest : later ≡ 0
 
-pub settings-clear : (minimum buckets start later : ℕ) → settings minimum buckets start later ≡ 0 → SettingsClear minimum buckets start later
+settings-clear : (minimum buckets start later : ℕ) → settings minimum buckets start later ≡ 0 → SettingsClear minimum buckets start later
 settings-clear minimum buckets start later e =
     let a = clear (eqb buckets 0) 4 (refuse (ltb 1024 buckets) 4 (refuse (ltb start minimum) 5 (refuse (ltb 2048 start) 5 later))) (omega arith) e in
     let b = clear (ltb 1024 buckets) 4 (refuse (ltb start minimum) 5 (refuse (ltb 2048 start) 5 later)) (omega arith) (a .rest) in
     let c = clear (ltb start minimum) 5 (refuse (ltb 2048 start) 5 later) (omega arith) (b .rest) in
     let d = clear (ltb 2048 start) 5 later (omega arith) (c .rest) in
     record {
-      some-bucket = omega (arith, eqb-false buckets 0 (a .first));
-      few-buckets = ltb-false 1024 buckets (b .first);
-      start-least = ltb-false start minimum (c .first);
-      start-most = ltb-false 2048 start (d .first);
+      in-range =
+          record {
+            some-bucket = omega (arith, eqb-false buckets 0 (a .first));
+            few-buckets = ltb-false 1024 buckets (b .first);
+            start-least = ltb-false start minimum (c .first);
+            start-most = ltb-false 2048 start (d .first);
+          };
       rest = d .rest;
     }
 
-pub record RoomClear (n m minimum workspace tiles : ℕ) : Type 0 where
-  pub work-room : 4 * (n + m) ≤ workspace
-  pub tile-room : 3 * (min n m / minimum) ≤ tiles
-
-pub room-clear : (n m minimum workspace tiles : ℕ) → room n m minimum workspace tiles 0 ≡ 0 → RoomClear n m minimum workspace tiles
+room-clear : (n m minimum workspace tiles : ℕ) → room n m minimum workspace tiles 0 ≡ 0 → Roomy n m minimum workspace tiles
 room-clear n m minimum workspace tiles e =
     let a = clear (ltb workspace (4 * (n + m))) 6 (refuse (ltb tiles (3 * (min n m / minimum))) 7 0) (omega arith) e in
     let b = clear (ltb tiles (3 * (min n m / minimum))) 7 0 (omega arith) (a .rest) in
@@ -85,12 +82,112 @@ room-clear n m minimum workspace tiles e =
       tile-room = ltb-false tiles (3 * (min n m / minimum)) (b .first);
     }
 
--- An accepted comparison has a minimum of 1 or more.
-pub plain-minimum : (first second : List ℕ) (minimum workspace tiles : ℕ) → plainRefusal first second minimum workspace tiles ≡ 0 → 1 ≤ minimum
-plain-minimum first second minimum workspace tiles e = minimums-clear minimum _ (sequences-clear first second _ e .rest) .least
+-- What either engine accepts can be compared, whatever it checks later.
+record ComparableClear (first second : List ℕ) (minimum later : ℕ) : Type 0 where
+  pub comparable : Comparable first second minimum
+  pub rest : later ≡ 0
 
-pub fast-minimum : (first second : List ℕ) (minimum buckets start workspace tiles : ℕ) → fastRefusal first second minimum buckets start workspace tiles ≡ 0 → 1 ≤ minimum
-fast-minimum first second minimum buckets start workspace tiles e = minimums-clear minimum _ (sequences-clear first second _ e .rest) .least
+comparable-clear : (first second : List ℕ) (minimum later : ℕ) → sequences first second (minimums minimum later) ≡ 0 → ComparableClear first second minimum later
+comparable-clear first second minimum later e =
+    let c = sequences-clear first second (minimums minimum later) e in
+    let d = minimums-clear minimum later (c .rest) in
+    record {
+      comparable =
+          record {
+            first-short = c .first-short;
+            second-short = c .second-short;
+            first-sound = c .first-sound;
+            second-sound = c .second-sound;
+            least = d .least;
+            most = d .most;
+          };
+      rest = d .rest;
+    }
+
+pub comparable : (first second : List ℕ) (minimum later : ℕ) → sequences first second (minimums minimum later) ≡ 0 → Comparable first second minimum
+comparable first second minimum later e = comparable-clear first second minimum later e .comparable
+
+-- And there is room and, by the search, its settings are in range.
+module _ (first second : List ℕ) (minimum workspace tiles : ℕ) where
+  pub plain-roomy : plainRefusal first second minimum workspace tiles ≡ 0 → Roomy (length first) (length second) minimum workspace tiles
+  plain-roomy e = room-clear (length first) (length second) minimum workspace tiles (comparable-clear first second minimum _ e .rest)
+
+  module _ (buckets start : ℕ) (e : fastRefusal first second minimum buckets start workspace tiles ≡ 0) where
+    settings-are : SettingsClear minimum buckets start (room (length first) (length second) minimum workspace tiles 0)
+    settings-are = settings-clear minimum buckets start _ (comparable-clear first second minimum _ e .rest)
+
+    pub fast-in-range : InRange minimum buckets start
+    fast-in-range = settings-are .in-range
+
+    pub fast-roomy : Roomy (length first) (length second) minimum workspace tiles
+    fast-roomy = room-clear (length first) (length second) minimum workspace tiles (settings-are .rest)
+
+-- ---- a part of which no cause holds leaves the number to what is checked later
+pub comparable-passes : (first second : List ℕ) (minimum later : ℕ) → Comparable first second minimum → sequences first second (minimums minimum later) ≡ later
+comparable-passes first second minimum later c =
+    let some : eqb minimum 0 ≡ false = ne-eqb minimum 0 (λ e. absurd (omega (arith, c .least))) in
+    rw (
+      le-ltb 2048 (length first) (c .first-short),
+      le-ltb 2048 (length second) (c .second-short),
+      c .first-sound,
+      c .second-sound,
+      some,
+      le-ltb 256 minimum (c .most),
+    )
+    refl
+
+pub in-range-passes : (minimum buckets start later : ℕ) → InRange minimum buckets start → settings minimum buckets start later ≡ later
+in-range-passes minimum buckets start later i =
+    let some : eqb buckets 0 ≡ false = ne-eqb buckets 0 (λ e. absurd (omega (arith, i .some-bucket))) in
+    rw (some, le-ltb 1024 buckets (i .few-buckets), le-ltb start minimum (i .start-least), le-ltb 2048 start (i .start-most)) refl
+
+pub roomy-passes : (n m minimum workspace tiles later : ℕ) → Roomy n m minimum workspace tiles → room n m minimum workspace tiles later ≡ later
+roomy-passes n m minimum workspace tiles later r =
+    rw (le-ltb workspace (4 * (n + m)) (r .work-room), le-ltb tiles (3 * (min n m / minimum)) (r .tile-room)) refl
+
+-- So what can be compared is accepted, where there is room and, by the search, where its settings are in range.
+module _ (first second : List ℕ) (minimum workspace tiles : ℕ) (c : Comparable first second minimum) (r : Roomy (length first) (length second) minimum workspace tiles) where
+  pub plain-accepts : plainRefusal first second minimum workspace tiles ≡ 0
+  plain-accepts = comparable-passes first second minimum _ c ∙ roomy-passes (length first) (length second) minimum workspace tiles 0 r
+
+  pub fast-accepts : (buckets start : ℕ) → InRange minimum buckets start → fastRefusal first second minimum buckets start workspace tiles ≡ 0
+  fast-accepts buckets start i =
+      comparable-passes first second minimum _ c
+      ∙ (in-range-passes minimum buckets start _ i ∙ roomy-passes (length first) (length second) minimum workspace tiles 0 r)
+
+-- ---- exchanging the sequences
+pub comparable-exchange : {first second : List ℕ} {minimum : ℕ} → Comparable first second minimum → Comparable second first minimum
+comparable-exchange c =
+    record {
+      first-short = c .second-short;
+      second-short = c .first-short;
+      first-sound = c .second-sound;
+      second-sound = c .first-sound;
+      least = c .least;
+      most = c .most;
+    }
+
+sequences-exchange : (first second : List ℕ) (later : ℕ) → sequences first second later ≡ sequences second first later
+sequences-exchange first second later =
+    ap (λ k. refuse (tooLong first) 1 (refuse (tooLong second) 1 k)) (refuse-swap (not (allSound first)) (not (allSound second)) 2 later)
+    ∙ refuse-swap (tooLong first) (tooLong second) 1 _
+
+room-exchange : (n m minimum workspace tiles later : ℕ) → room n m minimum workspace tiles later ≡ room m n minimum workspace tiles later
+room-exchange n m minimum workspace tiles later =
+    let sum : n + m ≡ m + n = omega arith in
+    let shorter : min n m ≡ min m n = omega arith in
+    rw (sum, shorter) refl
+
+-- The refusals are symmetric in the two sequences, for all numbers.
+pub plain-refusal-exchange : (first second : List ℕ) (minimum workspace tiles : ℕ) → plainRefusal first second minimum workspace tiles ≡ plainRefusal second first minimum workspace tiles
+plain-refusal-exchange first second minimum workspace tiles =
+    sequences-exchange first second _
+    ∙ ap (λ k. sequences second first (minimums minimum k)) (room-exchange (length first) (length second) minimum workspace tiles 0)
+
+pub fast-refusal-exchange : (first second : List ℕ) (minimum buckets start workspace tiles : ℕ) → fastRefusal first second minimum buckets start workspace tiles ≡ fastRefusal second first minimum buckets start workspace tiles
+fast-refusal-exchange first second minimum buckets start workspace tiles =
+    sequences-exchange first second _
+    ∙ ap (λ k. sequences second first (minimums minimum (settings minimum buckets start k))) (room-exchange (length first) (length second) minimum workspace tiles 0)
 
 -- The same of the numbers that the code of the parts answered.
 pub first-short-of : (first second : List ℕ) (q : ℕ) → q ≡ sequences first second 0 → q ≡ 0 → length first ≤ 2048

@@ -10,7 +10,7 @@ use lib.ListN.{getD}
 use Rattle.tiling.specs.Each.{none, also}
 use Rattle.tiling.specs.Run.{mark}
 use Rattle.tiling.specs.Greedy.{after}
-use Rattle.tiling.specs.Demand.{Covers, Free}
+use Rattle.tiling.specs.Demand.{Covers, Free, Left}
 use Rattle.tiling.proofs.Run.{mark-inside, mark-outside}
 
 -- A stretch without zeros in a list in which another was marked.
@@ -36,12 +36,7 @@ module _ {K : Type 0} (start len : K → ℕ) where
       let f = left-free ks (marking xs k) j h in
       also (λ c. h (free-kept ks (marking xs k) j f ∙ mark-inside (start k) (len k) xs j (c .least) (c .most))) f
 
-  -- What stands at j in ys, which is xs with the words of ks marked.
-  pub record Left (ks : List K) (xs ys : List ℕ) (j : ℕ) : Type 0 where
-    pub kept : Free start len ks j → getD ys j 0 ≡ getD xs j 0
-    pub zero : (Free start len ks j → ⊥) → getD ys j 0 ≡ 0
-
-  pub all-left : (ks : List K) (xs : List ℕ) (j : ℕ) → Left ks xs (after marking xs ks) j
+  pub all-left : (ks : List K) (xs : List ℕ) (j : ℕ) → Left start len ks xs (after marking xs ks) j
   all-left ks xs j = record { kept = free-kept ks xs j; zero = λ d. go (decLe (getD (after marking xs ks) j 0) 0) d }
     where
       go : Dec (getD (after marking xs ks) j 0 ≤ 0) → (Free start len ks j → ⊥) → getD (after marking xs ks) j 0 ≡ 0

@@ -15,12 +15,12 @@ use lib.Seq.{getD-drop}
 use Rattle.symbol.proofs.Word.{match-swap}
 use Rattle.tiling.specs.Each.{Each, none, also, Pairs}
 use Rattle.tiling.specs.Greedy.{after, Begins}
-use Rattle.tiling.specs.Tiling.{Tile, start, size, lay, tiling}
+use Rattle.tiling.specs.Tiling.{Tile, Lies, start, size, lay, tiling}
 use Rattle.tiling.specs.Listing.{Entry, firstIsPattern, straight, crossed, listing, covered, score}
 use Rattle.tiling.specs.Demand.{FreeRun, Stands, Apart, onFirst, onSecond, long, smallerCounts, exchanged, Tiled}
 use Rattle.tiling.proofs.Run.{run-least}
 use Rattle.tiling.proofs.Each.{each-map, each-unmap, pairs-map}
-use Rattle.tiling.proofs.Tiling.{Lies, tiles-lie}
+use Rattle.tiling.proofs.Tiling.{tiles-lie}
 use Rattle.tiling.proofs.Left.{tiling-complete, tiling-falls, pattern-left, text-left, tiling-apart-pattern, tiling-apart-text, covered-pattern, covered-text, tiling-long, tiling-begins}
 use Rattle.tiling.proofs.Codes.{smaller-same, at-one, code-below}
 

@@ -7,6 +7,10 @@ pub each-also : {A : Type 0} {Q R : A → Type 0} → ((x : A) → Q x → R x) 
 each-also h none = none
 each-also h (also {x = x} q r) = also (h x q) (each-also h r)
 
+pub each-both : {A : Type 0} {P Q R : A → Type 0} → ((x : A) → P x → Q x → R x) → {xs : List A} → Each P xs → Each Q xs → Each R xs
+each-both h none none = none
+each-both h (also {x = x} p ps) (also q qs) = also (h x p q) (each-both h ps qs)
+
 pub each-map : {A B : Type 0} {Q : A → Type 0} {R : B → Type 0} (f : A → B) → ((x : A) → Q x → R (f x)) → {xs : List A} → Each Q xs → Each R (map f xs)
 each-map f h none = none
 each-map f h (also {x = x} q r) = also (h x q) (each-map f h r)

@@ -10,13 +10,7 @@ use mathlib.Core.Path.{_≡_, refl, ap}
 use mathlib.Core.List.{List, [], _∷_, _++_}
 use borrow.Author.Tests.{le-leb, lt-leb}
 use Rattle.tiling.specs.Each.{Each, none, also, Pairs, no-pair, before}
-use Rattle.tiling.specs.Greedy.{greedy, after}
-
-module _ {S K : Type 0} (best : S → K) (size : K → ℕ) (lay : S → K → S) where
-  -- Nothing long enough is left, or the best is laid and then the rest.
-  pub data Greedy (minimum : ℕ) : S → List K → Type 0 where
-    done : {s : S} → size (best s) < minimum → Greedy minimum s []
-    more : {s : S} {ks : List K} → minimum ≤ size (best s) → Greedy minimum (lay s (best s)) ks → Greedy minimum s (best s ∷ ks)
+use Rattle.tiling.specs.Greedy.{greedy, Greedy, done, more, after}
 
 module _ {S K : Type 0} {best : S → K} {size : K → ℕ} {lay : S → K → S} where
   -- Only one list is laid from a state.

@@ -9,24 +9,18 @@ use lib.ListN.{length}
 use Rattle.symbol.specs.Word.{isCall}
 use Rattle.tiling.specs.Each.{Each, Pairs, no-pair, before}
 use Rattle.tiling.specs.Run.{mark}
-use Rattle.tiling.specs.Greedy.{after, Begins}
-use Rattle.tiling.specs.Tiling.{Tile, State, runAt, best, size, lay, tiling}
+use Rattle.tiling.specs.Greedy.{Greedy, done, more, after, Begins}
+use Rattle.tiling.specs.Tiling.{Tile, State, runAt, best, Lies, size, onPattern, onText, lay, tiling}
 use Rattle.tiling.specs.Listing.{straight, covered}
-use Rattle.tiling.specs.Demand.{Apart}
+use Rattle.tiling.specs.Demand.{Left, Apart}
 use Rattle.tiling.proofs.Run.{not-zero-left, not-zero-right}
 use Rattle.tiling.proofs.Each.{each-also}
 use Rattle.tiling.proofs.Tally.{tally-length}
-use Rattle.tiling.proofs.Greedy.{Greedy, done, more, only, complete, at-least, split, bounded, never-rise}
+use Rattle.tiling.proofs.Greedy.{only, complete, at-least, split, bounded, never-rise}
 use Rattle.tiling.proofs.Best.{best-is}
 use Rattle.tiling.proofs.Marked.{worked-none, lay-shrinks}
-use Rattle.tiling.proofs.Covered.{marking, marked-apart, Left, all-left}
-use Rattle.tiling.proofs.Tiling.{Lies, best-lies, Takes, takes-none, takes-more, takes-tile, zero-no-call, tiling-greedy, laid-lie}
-
-abbrev pub onPattern : Tile → ℕ
-onPattern k = k .p
-
-abbrev pub onText : Tile → ℕ
-onText k = k .t
+use Rattle.tiling.proofs.Covered.{marking, marked-apart, all-left}
+use Rattle.tiling.proofs.Tiling.{best-lies, Takes, takes-none, takes-more, takes-tile, zero-no-call, tiling-greedy, laid-lie}
 
 -- ---- what is left
 -- Every run left is shorter than the minimum.

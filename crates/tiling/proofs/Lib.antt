@@ -11,5 +11,6 @@ pub mod Tiling
 pub mod Left
 pub mod Codes
 pub mod Demand
+pub mod Shift
 pub mod Answers
 pub mod Comparing

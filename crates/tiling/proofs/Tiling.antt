@@ -10,26 +10,21 @@ use mathlib.Core.Bool.{Bool, true, false}
 use mathlib.Core.List.{List, [], _∷_, _++_}
 use borrow.Author.Tests.{le-leb, lt-leb}
 use lib.Dec.{leb}
-use lib.ListN.{length, take, drop, getD, length-take, length-drop}
+use lib.ListN.{length, take, drop, length-take, length-drop}
 use lib.Seq.{getD-drop, getD-take, ext-getD}
-use Rattle.symbol.specs.Word.{isCall, matches}
+use Rattle.symbol.specs.Word.{isCall}
 use Rattle.symbol.proofs.Word.{call-below, match-call, match-equal}
 use Rattle.tiling.specs.Each.{Each, none, also}
 use Rattle.tiling.specs.Tally.{tally}
-use Rattle.tiling.specs.Tiling.{Tile, State, best, size, lay, tiling}
+use Rattle.tiling.specs.Greedy.{Greedy, done, more}
+use Rattle.tiling.specs.Tiling.{Tile, State, best, Lies, size, lay, tiling}
 use Rattle.tiling.proofs.Run.{run-within, run-match}
 use Rattle.tiling.proofs.Tally.{tally-length, tally-mark, tally-all, tally-append}
-use Rattle.tiling.proofs.Greedy.{Greedy, done, more, only, greedy-meets}
+use Rattle.tiling.proofs.Greedy.{only, greedy-meets}
 use Rattle.tiling.proofs.Best.{best-is}
 use Rattle.tiling.proofs.Marked.{Worked, worked-none, worked-lay, match-kept}
 
 -- ---- where a tile lies
--- A tile lies within both sequences, and its words match one by one.
-pub record Lies (s : State) (k : Tile) : Type 0 where
-  pub in-pattern : k .p + k .len ≤ length (s .pattern)
-  pub in-text : k .t + k .len ≤ length (s .text)
-  pub matching : (i : ℕ) → i < k .len → matches (getD (s .pattern) (k .p + i) 0) (getD (s .text) (k .t + i) 0) ≡ true
-
 pub best-lies : (s : State) → 1 ≤ best s .len → Lies s (best s)
 best-lies s h =
     let k = best s in

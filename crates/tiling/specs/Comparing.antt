@@ -1,6 +1,7 @@
 -- Why a comparison is refused. "Comparing checks 1 to 7 in that order." The plain engine has no settings, so no 4 and 5.
-use Prim.Native.Nat.{ℕ, _+_, _*_, _/_, min}
-use mathlib.Core.Bool.{not}
+use Prim.Native.Nat.{ℕ, _+_, _*_, _/_, _≤_, min}
+use mathlib.Core.Path.{_≡_}
+use mathlib.Core.Bool.{true, not}
 use mathlib.Core.List.{List}
 use lib.Dec.{eqb, ltb}
 use lib.ListN.{length}
@@ -43,3 +44,25 @@ plainRefusal first second minimum workspace tiles =
 abbrev pub fastRefusal : List ℕ → List ℕ → ℕ → ℕ → ℕ → ℕ → ℕ → ℕ
 fastRefusal first second minimum buckets start workspace tiles =
     sequences first second (minimums minimum (settings minimum buckets start (room (length first) (length second) minimum workspace tiles 0)))
+
+-- Where no cause holds, part by part. The causes 1 to 3: two sequences that can be compared at this minimum.
+pub record Comparable (first second : List ℕ) (minimum : ℕ) : Type 0 where
+  pub first-short : length first ≤ 2048
+  pub second-short : length second ≤ 2048
+  pub first-sound : allSound first ≡ true
+  pub second-sound : allSound second ≡ true
+  pub least : 1 ≤ minimum
+  pub most : minimum ≤ 256
+
+-- The causes 4 and 5: settings of the search in their ranges.
+pub record InRange (minimum buckets start : ℕ) : Type 0 where
+  pub some-bucket : 1 ≤ buckets
+  pub few-buckets : buckets ≤ 1024
+  pub start-least : minimum ≤ start
+  pub start-most : start ≤ 2048
+
+-- The causes 6 and 7: a workspace and a tile buffer of at least the words that the table asks for, for sequences of these lengths. Exact
+-- ones have just as many.
+pub record Roomy (first second minimum workspace tiles : ℕ) : Type 0 where
+  pub work-room : 4 * (first + second) ≤ workspace
+  pub tile-room : 3 * (min first second / minimum) ≤ tiles

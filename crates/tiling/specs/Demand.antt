@@ -4,11 +4,13 @@ use mathlib.Core.Path.{_≡_}
 use mathlib.Core.Bool.{Bool, true, _&&_}
 use mathlib.Core.List.{List, [], _∷_, map}
 use lib.Dec.{eqb}
+use lib.IntN.{pos, negℤ}
+use lib.Signed.{_≤ℤ_}
 use lib.ListN.{length, getD, drop}
 use Rattle.symbol.specs.Word.{isCall, code, matches}
 use Rattle.tiling.specs.Each.{Each, Pairs}
 use Rattle.tiling.specs.Tally.{tally}
-use Rattle.tiling.specs.Listing.{Entry, covered}
+use Rattle.tiling.specs.Listing.{Entry, covered, shift}
 use Rattle.tiling.specs.declared.Compared.{Compared}
 
 -- A tile of this length covers position j of the sequence on which it starts here.
@@ -19,6 +21,11 @@ pub record Covers (start len j : ℕ) : Type 0 where
 -- "A word is free when no listed tile covers it on its strand." Which sequence is meant is said by which start is taken.
 abbrev pub Free : {K : Type 0} → (K → ℕ) → (K → ℕ) → List K → ℕ → Type 0
 Free start len tiles j = Each (λ k. Covers (start k) (len k) j → ⊥) tiles
+
+-- What stands at j in ys, which is xs with the words of the tiles marked: "its words on both strands are marked", and no others.
+pub record Left {K : Type 0} (start len : K → ℕ) (tiles : List K) (xs ys : List ℕ) (j : ℕ) : Type 0 where
+  pub kept : Free start len tiles j → getD ys j 0 ≡ getD xs j 0
+  pub zero : (Free start len tiles j → ⊥) → getD ys j 0 ≡ 0
 
 -- No position is covered by both tiles.
 abbrev pub Apart : {K : Type 0} → (K → ℕ) → (K → ℕ) → K → K → Type 0
@@ -46,6 +53,11 @@ pub record Stands (first second : List ℕ) (e : Entry) : Type 0 where
   pub in-first : e .first + e .len ≤ length first
   pub in-second : e .second + e .len ≤ length second
   pub matching : (i : ℕ) → i < e .len → matches (getD first (e .first + i) 0) (getD second (e .second + i) 0) ≡ true
+
+-- "The shift of a tile is .. a signed number from -2,047 to 2,047."
+pub record Shifted (e : Entry) : Type 0 where
+  pub least : negℤ (pos 2047) ≤ℤ shift e
+  pub most : shift e ≤ℤ pos 2047
 
 -- "A code's number of calls on a strand counts the words there that are calls with it."
 abbrev pub isCallWith : ℕ → ℕ → Bool
@@ -91,8 +103,9 @@ abbrev pub tilesOf : Compared → List ℕ → List Entry
 tilesOf a buffer = tilesIn (a .tiles) buffer
 
 -- Two comparisons of which the second had the sequences exchanged: "only exchanges the sides of each tile: order, lengths, tile count,
--- covered and score are equal."
+-- covered and score are equal." Where one is accepted, so is the other.
 pub record Exchanges (a : Compared) (buffer : List ℕ) (a' : Compared) (buffer' : List ℕ) : Type 0 where
+  pub refusal : a' .refusal ≡ a .refusal
   pub sides : tilesOf a' buffer' ≡ map exchanged (tilesOf a buffer)
   pub tiles : a' .tiles ≡ a .tiles
   pub covered : a' .covered ≡ a .covered

@@ -1,5 +1,5 @@
 -- The greedy choice, over any state: what is best in a state, how long that is, and the state after laying it.
-use Prim.Native.Nat.{ℕ, zero, suc, _<_}
+use Prim.Native.Nat.{ℕ, zero, suc, _≤_, _<_}
 use mathlib.Core.Bool.{true, false}
 use mathlib.Core.Path.{_≡_}
 use mathlib.Core.List.{List, [], _∷_, _++_}
@@ -19,6 +19,12 @@ module _ {S K : Type 0} (best : S → K) (size : K → ℕ) (lay : S → K → S
   greedy (suc fuel) minimum s =
       elim (leb minimum (size (best s)))
       [ true ↦ best s ∷ greedy fuel minimum (lay s (best s)) | false ↦ [] ]
+
+  -- The same as a relation between a state and the whole list laid from it, without fuel: nothing of at least the minimum is left, or
+  -- the best is laid and then the rest. "Repeat until there is none."
+  pub data Greedy (minimum : ℕ) : S → List K → Type 0 where
+    done : {s : S} → size (best s) < minimum → Greedy minimum s []
+    more : {s : S} {ks : List K} → minimum ≤ size (best s) → Greedy minimum (lay s (best s)) ks → Greedy minimum s (best s ∷ ks)
 
 -- The state after some were laid, one after another.
 module _ {S K : Type 0} (lay : S → K → S) where

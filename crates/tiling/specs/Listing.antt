@@ -44,6 +44,6 @@ unfoldable pub score : ℕ → ℕ → ℕ
 score covered zero = 0
 score covered (suc total) = 2000 * covered / suc total
 
--- "The shift of a tile is its second start minus its first, a signed number".
+-- "The shift of a tile is its second start minus its first, a signed number from -2,047 to 2,047."
 unfoldable pub shift : Entry → ℤ
 shift e = pos (e .second) -ℤ pos (e .first)

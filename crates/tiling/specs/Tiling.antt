@@ -1,7 +1,10 @@
 -- The greedy string tiling of a pattern and a text. It knows no hash, pass or search length.
-use Prim.Native.Nat.{ℕ}
+use Prim.Native.Nat.{ℕ, _+_, _≤_, _<_}
+use mathlib.Core.Path.{_≡_}
+use mathlib.Core.Bool.{true}
 use mathlib.Core.List.{List}
-use lib.ListN.{length, drop}
+use lib.ListN.{length, drop, getD}
+use Rattle.symbol.specs.Word.{matches}
 use Rattle.tiling.specs.Run.{run, mark}
 use Rattle.tiling.specs.Greedy.{peak, greedy}
 
@@ -33,12 +36,32 @@ best s =
     let p = peak (rowLength s) (length (s .pattern)) in
     record { p = p; t = bestText s p; len = rowLength s p }
 
+-- The same as facts about a tile: no run is longer, each run at a smaller p is shorter, each run at the same p and a smaller t is shorter.
+pub record Best (s : State) (k : Tile) : Type 0 where
+  pub long : k .len ≡ runAt s (k .p) (k .t)
+  pub most : (p t : ℕ) → runAt s p t ≤ k .len
+  pub above : (p t : ℕ) → p < k .p → runAt s p t < k .len
+  pub before : (t : ℕ) → t < k .t → runAt s (k .p) t < k .len
+
+-- A tile that lies within both sequences, with "words matching one by one from p and from t".
+pub record Lies (s : State) (k : Tile) : Type 0 where
+  pub in-pattern : k .p + k .len ≤ length (s .pattern)
+  pub in-text : k .t + k .len ≤ length (s .text)
+  pub matching : (i : ℕ) → i < k .len → matches (getD (s .pattern) (k .p + i) 0) (getD (s .text) (k .t + i) 0) ≡ true
+
 -- "It becomes a tile and its words on both strands are marked."
 unfoldable pub lay : State → Tile → State
 lay s k = record { pattern = mark (k .p) (k .len) (s .pattern); text = mark (k .t) (k .len) (s .text) }
 
+-- A tile's length, and its start on either side.
 abbrev pub size : Tile → ℕ
 size k = k .len
+
+abbrev pub onPattern : Tile → ℕ
+onPattern k = k .p
+
+abbrev pub onText : Tile → ℕ
+onText k = k .t
 
 -- The tiles in the order laid. Each takes at least one word of the pattern, so its length is fuel enough.
 unfoldable pub tiling : ℕ → State → List Tile
