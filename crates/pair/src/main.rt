@@ -1,5 +1,7 @@
-// The pair program: compares two records of its standard input and prints the tiling. All that is printed for an input is
-// said by report's contract.
+// The pair program: compares two records of its standard input and prints the tiling. What is printed for an input is said
+// by report's contract, which asks for the lengths of both buffers. That main hands the bytes on is not proved: no contract
+// can say which bytes a read or a write moves. A read that fails ends the input, and a write that fails goes unreported, since
+// a program has no exit status.
 use libc::STDIN_FILENO;
 use libc::STDOUT_FILENO;
 use report::INPUT_BYTES;
