@@ -100,7 +100,7 @@ words-enough ws zero h = absurd (not-suc-le-zero h)
 words-enough [] (suc k) h = refl
 words-enough (minimum ∷ src) (suc k) h = first-same minimum src k (omega arith)
 
--- In bytes.
+-- The same in bytes.
 pub input-enough : (input : List ℕ) (k : ℕ) → inputBytes ≤ k → pairReport (take k input) ≡ pairReport input
 unfolding pairReport
 input-enough input k h =
