@@ -1,4 +1,5 @@
-//! The pair program, run as a process: what it prints for valid, cut and damaged input.
+//! The pair program, run as a process: what it prints for valid, cut and damaged input, and where a read or a
+//! write fails.
 
 use crate::group::Group;
 use crate::known::{self, letters, LISTING};
@@ -11,6 +12,8 @@ use crate::reference::{
 };
 use crate::samples::{call, ids, sequence, sound_word, unsound_word, with, NO_CALL};
 use std::fmt::Arguments;
+use std::fs::File;
+use std::io::Write;
 use std::process::Command;
 use std::time::Duration;
 
@@ -372,4 +375,31 @@ pub fn in_pieces(g: &mut Group) {
         let case = format_args!("{} bytes in pieces of {piece}", whole.len());
         expect_in(g, case, &whole, (piece, pause), &pair_program(&whole));
     }
+}
+
+/// A read that fails is the end of the input, and output that cannot be written is lost. The program has
+/// no exit status to say so.
+pub fn faults(g: &mut Group) {
+    let ended = |command: &mut Command| {
+        let seen = command.output().map(|ran| {
+            let printed = [&ran.stdout, &ran.stderr].map(|bytes| lossy(bytes));
+            (ran.status.code(), printed)
+        });
+        seen.map_err(|error| error.to_string())
+    };
+    let quietly = |printed: &str| Ok((Some(0), [printed, ""].map(String::from)));
+    let folder = File::open(env!("CARGO_MANIFEST_DIR")).expect("a folder can be opened");
+    let seen = ended(Command::new(PROGRAM).stdin(folder));
+    let expected = quietly(&format!("REFUSED {CUT}\n"));
+    g.equal(format_args!("a folder as input"), seen, expected);
+    let full = File::options()
+        .write(true)
+        .open("/dev/full")
+        .expect("/dev/full is there");
+    let (reader, mut writer) = std::io::pipe().expect("a pipe can be made");
+    let input = bytes(&worked());
+    writer.write_all(&input).expect("a pipe holds it");
+    drop(writer);
+    let seen = ended(Command::new(PROGRAM).stdin(reader).stdout(full));
+    g.equal(format_args!("a full device as output"), seen, quietly(""));
 }

@@ -19,6 +19,7 @@ use Rattle.record.specs.Reading.{head, count, sequence, closes}
 use Rattle.record.proofs.Reading.{framed}
 use Rattle.report.specs.Words.{wordsOf}
 use Rattle.report.specs.Pair.{unless, reading, fromSecond, fromFirst, fromWords, pairReport}
+use Rattle.report.specs.Buffers.{inputWords, inputBytes, reportBytes, ReadFrom}
 use Rattle.report.specs.Written.{Written}
 use Rattle.report.proofs.Words.{words-cut}
 
@@ -93,16 +94,19 @@ first-same minimum src k h =
     rw (words-same src k far short, drop-cut (count src + 2) k src (omega arith))
     (second-same (idOf (head src)) minimum (sequence src) (drop (count src + 2) src) (k - (count src + 2)) rest)))
 
-pub words-enough : (ws : List ℕ) (k : ℕ) → 4101 ≤ k → fromWords (take k ws) ≡ fromWords ws
+pub words-enough : (ws : List ℕ) (k : ℕ) → inputWords ≤ k → fromWords (take k ws) ≡ fromWords ws
 unfolding fromWords
 words-enough ws zero h = absurd (not-suc-le-zero h)
 words-enough [] (suc k) h = refl
 words-enough (minimum ∷ src) (suc k) h = first-same minimum src k (omega arith)
 
--- In bytes: what the program reads of its input is enough.
-pub input-enough : (input : List ℕ) → pairReport (take 16404 input) ≡ pairReport input
+-- The same in bytes.
+pub input-enough : (input : List ℕ) (k : ℕ) → inputBytes ≤ k → pairReport (take k input) ≡ pairReport input
 unfolding pairReport
-input-enough input = rw (words-cut 4101 input) (words-enough (wordsOf input) 4101 (omega arith))
+input-enough input k h =
+    let cut : (l : List ℕ) → fromWords (wordsOf (take inputBytes l)) ≡ fromWords (wordsOf l) =
+    λ l. rw (words-cut inputWords l) (words-enough (wordsOf l) inputWords (omega arith)) in
+    sym (cut (take k input)) ∙ (ap (λ l. fromWords (wordsOf l)) (take-take inputBytes k input h) ∙ cut input)
 
 -- ---- what report writes: it stored the first words of the input
 module _ (input w w' : List ℕ) (n : ℕ) (counted : n ≡ length (take (length w) (wordsOf input))) (stored : w' ≡ onto (take (length w) (wordsOf input)) w) where
@@ -112,30 +116,26 @@ module _ (input w w' : List ℕ) (n : ℕ) (counted : n ≡ length (take (length
   pub stored-count : n ≡ length (take n w')
   stored-count = sym (length-take-le n w' stored-fit)
 
-  reported : length w ≡ 4101 → (o : List ℕ) (r : ℕ) (o' : List ℕ) → Written (fromWords (take n w')) o r o' → Written (pairReport input) o r o'
+  pub reported : length w ≡ inputWords → (o : List ℕ) (r : ℕ) (o' : List ℕ) → Written (fromWords (take n w')) o r o' → Written (pairReport input) o r o'
   unfolding pairReport
   reported room o r o' a =
       let ws = take (length w) (wordsOf input) in
-      let e : take n w' ≡ take 4101 (wordsOf input) =
+      let e : take n w' ≡ take inputWords (wordsOf input) =
       rw stored (take-at ws (drop (length ws) w) n (sym counted)) ∙ ap (λ k. take k (wordsOf input)) room in
-      rw (← words-enough (wordsOf input) 4101 (omega arith), ← e) a
+      rw (← words-enough (wordsOf input) inputWords (omega arith), ← e) a
 
-  module _ (room : length w ≡ 4101) (o : List ℕ) (r : ℕ) (o' : List ℕ) (a : Written (fromWords (take n w')) o r o') where
-    pub report-count : r ≡ length (pairReport input)
-    report-count = reported room o r o' a .count
+-- A buffer that holds what can matter of a stream gives the stream's report.
+pub stream-reported : (stream b : List ℕ) (got : ℕ) (o : List ℕ) (r : ℕ) (o' : List ℕ) → inputBytes ≤ length b → Written (pairReport (take got b)) o r o' → ReadFrom stream got b → Written (pairReport stream) o r o'
+stream-reported stream b got o r o' room a read = rw (ap pairReport read ∙ input-enough stream (length b) room) at a
 
-    pub report-held : o' ≡ onto (pairReport input) o
-    report-held = reported room o r o' a .held
+-- ---- the report's bytes in the output
+module _ (bytes o : List ℕ) (r : ℕ) (o' : List ℕ) (a : Written bytes o r o') where
+  pub report-fits : reportBytes ≤ length o → r ≤ length o'
+  report-fits room = omega (arith, ap length (a .held), length-onto bytes o (omega (arith, a .few, a .count)))
 
-    pub report-fits : length o ≡ 92284 → r ≤ length o'
-    report-fits long =
-        let few : r ≤ 92284 = reported room o r o' a .few in
-        let n = report-count in
-        omega (arith, few, ap length report-held, length-onto (pairReport input) o (omega (arith, few, n)))
+  pub report-counts : reportBytes ≤ length o → r ≡ length (take r o')
+  report-counts room = sym (length-take-le r o' (report-fits room))
 
-    pub report-counts : length o ≡ 92284 → r ≡ length (take r o')
-    report-counts long = sym (length-take-le r o' (report-fits long))
-
--- The bytes that the program hands to the write are the report.
-pub report-bytes : (input o : List ℕ) (r : ℕ) (o' : List ℕ) → r ≡ length (pairReport input) → o' ≡ onto (pairReport input) o → take r o' ≡ pairReport input
-report-bytes input o r o' e k = rw k (take-at (pairReport input) (drop (length (pairReport input)) o) r (sym e))
+  -- What is handed to the write is the report.
+  pub report-bytes : take r o' ≡ bytes
+  report-bytes = rw (a .held) (take-at bytes (drop (length bytes) o) r (sym (a .count)))

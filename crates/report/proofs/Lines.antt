@@ -17,11 +17,12 @@ use Rattle.lines.specs.Appended.{Appended}
 use Rattle.lines.proofs.Appended.{both}
 use Rattle.tile.proofs.Difference.{difference-size}
 use Rattle.report.specs.Pair.{refusedLine, shiftEnd, tileLine, tileLines, opening, closing, pairLines}
+use Rattle.report.specs.Buffers.{reportBytes}
 use Rattle.report.specs.Written.{Written, Laid}
 use Rattle.report.proofs.Tiles.{length-tilesIn}
 
 -- What is appended at position 0 stands at the start.
-written : (most : ℕ) (bytes : List ℕ) (r : ℕ) (b b' : List ℕ) → most ≤ 92284 → Appended most bytes 0 b r b' → Written bytes b r b'
+written : (most : ℕ) (bytes : List ℕ) (r : ℕ) (b b' : List ℕ) → most ≤ reportBytes → Appended most bytes 0 b r b' → Written bytes b r b'
 written most bytes r b b' h a = record { count = omega (arith, a .next); few = omega (arith, a .next, a .few); held = a .held }
 
 pub refused-written : (r n : ℕ) (b b' : List ℕ) → Appended 19 (line (ascii "REFUSED") (r ∷ [])) 0 b n b' → Written (refusedLine r) b n b'
@@ -57,5 +58,5 @@ tile-written first second len z at p r b₀ b₁ b₂ f s k x y =
 pub pair-written : (n m : ℕ) (a : Compared) (tiles : List ℕ) (i j minimum p q r : ℕ) (b₀ b₁ b₂ b₃ : List ℕ) → Laid n m a tiles → Appended 63 (opening i j minimum (a .tiles)) 0 b₀ p b₁ → Appended (45 * a .tiles) (tileLines (tilesIn (a .tiles) tiles)) p b₁ q b₂ → Appended 61 (closing (a .covered) n m (a .score)) q b₂ r b₃ → Written (pairLines i j minimum n m (tilesIn (a .tiles) tiles)) b₀ r b₃
 unfolding pairLines
 pair-written n m a tiles i j minimum p q r b₀ b₁ b₂ b₃ l x y z =
-    let few : 63 + (45 * a .tiles + 61) ≤ 92284 = omega (arith, l .few) in
+    let few : 63 + (45 * a .tiles + 61) ≤ reportBytes = omega (arith, l .few) in
     rw (length-tilesIn (a .tiles) tiles, ← l .covered, ← l .score) (written _ _ r b₀ b₃ few (both x (both y z)))

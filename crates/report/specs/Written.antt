@@ -9,11 +9,12 @@ use Rattle.tiling.specs.Listing.{Entry, listing, covered, score}
 use Rattle.tiling.specs.Demand.{tilesIn}
 use Rattle.tiling.specs.declared.Compared.{Compared}
 use Rattle.report.specs.Pair.{comparing}
+use Rattle.report.specs.Buffers.{reportBytes}
 
 -- The bytes stand at the start of the buffer, r is their number, and what lies beyond is as it was.
 pub record Written (bytes b : List ℕ) (r : ℕ) (b' : List ℕ) : Type 0 where
   pub count : r ≡ length bytes
-  pub few : r ≤ 92284
+  pub few : r ≤ reportBytes
   pub held : b' ≡ onto bytes b
 
 -- A tile's starts are positions of sequences: below 2,048.

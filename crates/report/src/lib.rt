@@ -1,8 +1,8 @@
 // The pair program's report: from the bytes of its input to the bytes of its output.
 use tiling::Compared;
 ghost use mathlib.Core.Path.{_≡_};
-ghost use mathlib.Core.List.{[], _∷_};
-ghost use Prim.Native.Nat.{_+_, _*_, _≤_, _<_, max};
+ghost use mathlib.Core.List.{List, [], _∷_};
+ghost use Prim.Native.Nat.{ℕ, _+_, _*_, _≤_, _<_, max};
 ghost use lib.ListN.{length, take};
 ghost use Rattle.io.specs.Counts.{Counts};
 ghost use Rattle.buffer.specs.Buffer.{onto};
@@ -12,7 +12,17 @@ ghost use Rattle.lines.specs.Text.{decimal, phrase};
 ghost use Rattle.lines.specs.Appended.{Appended};
 ghost use Rattle.report.specs.Words.{wordsOf, wordAt};
 ghost use Rattle.report.specs.Pair.{refusedLine, shiftEnd, tileLine, tileLines, opening, closing, pairLines, fromPair, fromSecond, fromFirst, fromWords, pairReport};
+ghost use Rattle.report.specs.Buffers.{inputBytes, reportBytes, ReadFrom};
 ghost use Rattle.report.specs.Written.{Written, Starts, Laid, Searched};
+
+// As many words of the input as can matter.
+const INPUT_WORDS: usize = 1 + 2 * 2050;
+
+// Lengths for report's two buffers that are enough for every input. Its contract asks for the same numbers, so that a wrong
+// one here is refused where the buffers are lent.
+pub const INPUT_BYTES: usize = 4 * INPUT_WORDS;
+
+pub const REPORT_BYTES: usize = 63 + 2048 * 45 + 61;
 
 // A byte as a number of a word's width.
 fn wide(byte: u8) -> u32
@@ -48,7 +58,7 @@ fn store_words(bytes: &[u8], words: &mut [u32]) -> usize
 
 // Writes the line of a refusal.
 fn refused_line(out: &mut [u8], r: u32) -> usize
-    requires { ⌜ 92284 ≤ length (now out) ⌝ }
+    requires { ⌜ reportBytes ≤ length (now out) ⌝ }
     ensures { λ n. ⌜ Written (refusedLine r) (now (out .entry)) n (now (out .exit)) ⌝ }
 {
     lines::line(out, 0, b"REFUSED", &[r])
@@ -127,7 +137,7 @@ fn pair_lines(
     answer: Compared,
     tiles: &[u32],
 ) -> usize
-    requires { ⌜ 92284 ≤ length (now out) ⌝ }
+    requires { ⌜ reportBytes ≤ length (now out) ⌝ }
     requires { ⌜ Laid n m answer (now tiles) ⌝ }
     ensures { λ r. ⌜ Written (pairLines a b minimum n m (tilesIn (answer .tiles) (now (tiles .entry)))) (now (out .entry)) r (now (out .exit)) ⌝ }
 {
@@ -168,7 +178,7 @@ fn search_pair(first: &[u32], second: &[u32], minimum: u32, tiles: &mut [u32]) -
 
 // Compares two sequences and writes the report.
 fn compare(out: &mut [u8], a: u32, b: u32, minimum: u32, first: &[u32], second: &[u32]) -> usize
-    requires { ⌜ (92284 ≤ length (now out)) × (length (now first) ≤ 2048) × (length (now second) ≤ 2048) ⌝ }
+    requires { ⌜ (reportBytes ≤ length (now out)) × (length (now first) ≤ 2048) × (length (now second) ≤ 2048) ⌝ }
     ensures { λ r. ⌜ Written (fromPair a b minimum (now (first .entry)) (now (second .entry))) (now (out .entry)) r (now (out .exit)) ⌝ }
 {
     let mut tiles = [0u32; 6144];
@@ -190,7 +200,7 @@ fn compare(out: &mut [u8], a: u32, b: u32, minimum: u32, first: &[u32], second: 
 
 // Reads the second record and goes on to compare.
 fn from_second(out: &mut [u8], a: u32, minimum: u32, first: &[u32], src: &[u32]) -> usize
-    requires { ⌜ (92284 ≤ length (now out)) × (length (now first) ≤ 2048) ⌝ }
+    requires { ⌜ (reportBytes ≤ length (now out)) × (length (now first) ≤ 2048) ⌝ }
     ensures { λ r. ⌜ Written (fromSecond a minimum (now (first .entry)) (now (src .entry))) (now (out .entry)) r (now (out .exit)) ⌝ }
 {
     let mut second = [0u32; 2048];
@@ -204,7 +214,7 @@ fn from_second(out: &mut [u8], a: u32, minimum: u32, first: &[u32], src: &[u32])
 
 // Reads the first record and goes on to the second.
 fn from_first(out: &mut [u8], minimum: u32, src: &[u32]) -> usize
-    requires { ⌜ 92284 ≤ length (now out) ⌝ }
+    requires { ⌜ reportBytes ≤ length (now out) ⌝ }
     ensures { λ r. ⌜ Written (fromFirst minimum (now (src .entry))) (now (out .entry)) r (now (out .exit)) ⌝ }
 {
     let mut first = [0u32; 2048];
@@ -219,7 +229,7 @@ fn from_first(out: &mut [u8], minimum: u32, src: &[u32]) -> usize
 
 // Takes the minimum word and goes on to the records.
 fn from_words(out: &mut [u8], words: &[u32]) -> usize
-    requires { ⌜ 92284 ≤ length (now out) ⌝ }
+    requires { ⌜ reportBytes ≤ length (now out) ⌝ }
     ensures { λ r. ⌜ Written (fromWords (now (words .entry))) (now (out .entry)) r (now (out .exit)) ⌝ }
 {
     if words.len() == 0 {
@@ -228,15 +238,18 @@ fn from_words(out: &mut [u8], words: &[u32]) -> usize
     from_first(out, words[0], &words[1..])
 }
 
-// Writes the report of a pair program's input to the start of the output and answers how many bytes it has. Every input
-// has a report, and none is longer than the output: a line of a tile has at most 45 bytes, and the other lines together at
-// most 124. The third clause is what taking these bytes out of the output asks.
-pub fn report(input: &[u8], output: &mut [u8; 92284]) -> usize
-    ensures { λ r. ⌜ r ≡ length (pairReport (now (input .entry))) ⌝ }
-    ensures { λ r. ⌜ now (output .exit) ≡ onto (pairReport (now (input .entry))) (now (output .entry)) ⌝ }
+// Writes the report of the input that is in the first got bytes of its buffer to the start of the output, and answers how
+// many bytes it has. Where these bytes were read from a stream, it is also the report of the whole stream: the buffer is long
+// enough for all that can matter of one. The last clause is what taking the report out of the output asks.
+pub fn report(input: &[u8], got: usize, output: &mut [u8]) -> usize
+    requires { ⌜ inputBytes ≤ length (now input) ⌝ }
+    requires { ⌜ Counts got (now input) ⌝ }
+    requires { ⌜ reportBytes ≤ length (now output) ⌝ }
+    ensures { λ r. ⌜ Written (pairReport (take got (now (input .entry)))) (now (output .entry)) r (now (output .exit)) ⌝ }
+    ensures { λ r. ⌜ ((stream : List ℕ) → ReadFrom stream got (now (input .entry)) → Written (pairReport stream) (now (output .entry)) r (now (output .exit))) ⌝ }
     ensures { λ r. ⌜ Counts r (now (output .exit)) ⌝ }
 {
-    let mut words = [0u32; 4101];
-    let count = store_words(input, &mut words);
+    let mut words = [0u32; INPUT_WORDS];
+    let count = store_words(&input[..got], &mut words);
     from_words(output, &words[..count])
 }

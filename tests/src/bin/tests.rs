@@ -17,7 +17,7 @@ use std::thread;
 type Row = (&'static str, u64, fn(&mut Group));
 
 #[rustfmt::skip]
-const GROUPS: [Row; 82] = [
+const GROUPS: [Row; 83] = [
     ("reference: known pairs", 1, known::pairs),
     ("reference: known windows", 2, known::windows),
     ("reference: worked example", 3, known::example),
@@ -86,6 +86,7 @@ const GROUPS: [Row; 82] = [
     ("program: counts", 57, program::counts),
     ("program: what follows", 58, program::what_follows),
     ("program: in pieces", 59, program::in_pieces),
+    ("program: faults", 83, program::faults),
     ("tool: encode and decode", 61, round_trips::encode_and_decode),
     ("tool: bad lines", 62, bad_lines::bad_lines),
     ("tool: bad records", 63, bad_records::bad_records),
