@@ -4,26 +4,49 @@ SHELL := /bin/bash
 .ONESHELL:
 .PHONY: pair tool library example test bench fuzz check clean
 
-# Runs a command and shows what it printed only if it failed.
-define quietly
-quietly() { local log; log=$$(mktemp); "$$@" > "$$log" 2>&1 || { cat "$$log"; rm -f "$$log"; exit 1; }; rm -f "$$log"; }
+# The programs that each target needs. What is missing is named before anything is begun.
+needs-pair := rt
+needs-library := rt
+needs-example := rt cc
+needs-tool := rt cargo cc
+needs-test := rt cargo cc python3 script
+needs-bench := rt cargo cc valgrind
+needs-fuzz := rt clang
+needs-check := rt
+missing = $(strip $(foreach program,$(needs-$1),$(if $(shell command -v $(program)),,$(program))))
+$(foreach goal,$(or $(MAKECMDGOALS),pair),$(if $(call missing,$(goal)),$(error make $(goal) needs what is not there: $(call missing,$(goal)))))
+
+# Runs rt and shows each crate as it is proved; where it fails, all that it printed.
+define proving
+log=$$(mktemp)
+trap 'rm -f "$$log"' EXIT
+proving() {
+	if [ -z "$$(ls target/stamp 2> /dev/null)" ]; then
+		echo "Everything is proved before it is built, crate by crate. The first time this takes a few minutes."
+	fi
+	"$$@" 2>&1 | tee "$$log" | sed --unbuffered -nE 's/^rt: ([a-z0-9_]+ proved \([0-9]+ s\))$$/\1/p' || { cat "$$log"; exit 1; }
+}
 endef
 
 # Proves and builds the pair program and all that it stands on, and runs it on the worked example.
 pair:
-	@$(quietly)
-	echo "Proving and building the pair program; this takes a few minutes the first time."
-	quietly rt check pair
+	@$(proving)
+	proving rt check pair
 	target/bin/pair < crates/pair/stdin
 
-# Proves the core and writes target/library: libsigxume.a and sigxume.h, for C, and for the Rust crate in library/.
+# Proves the core and writes target/library: libsigxume.a and sigxume.h, for C, and for the Rust crate in library/. The archive is
+# made anew where the exported functions or what they stand on have changed, which rt's stamp of the crate tells.
 library:
-	@$(quietly)
-	echo "Proving and building the library; this takes a few minutes the first time."
-	quietly rt staticlib capi
+	@$(proving)
+	proving rt check capi
+	if ! cmp -s target/stamp/capi target/staticlib/stamp; then
+		proving rt staticlib capi
+		cp target/stamp/capi target/staticlib/stamp
+	fi
 	mkdir -p target/library
 	install -C -m 644 target/staticlib/libcapi.a target/library/libsigxume.a
 	install -C -m 644 c/sigxume.h target/library/sigxume.h
+	echo "target/library has libsigxume.a and sigxume.h."
 
 # Builds the C example and runs it: it must print what the pair program prints. Where there is a C++ compiler it takes the header too.
 example: library
@@ -40,14 +63,12 @@ tool: library
 	@cargo build --quiet --release --package sigxume-tool
 	mkdir -p target/bin
 	install -C -m 755 target/cargo/release/sigxume target/bin/sigxume
+	echo "The command is target/bin/sigxume."
 
 # Proves everything from nothing, then runs the tests of the library, the C example, the tool and the test program; ends with
 # the last line of `rt ci`.
 test:
-	@for program in rt cargo cc python3 script; do
-		command -v "$$program" > /dev/null || { echo "make test needs $$program, which is not there"; exit 1; }
-	done
-	log=$$(mktemp)
+	@log=$$(mktemp)
 	trap 'rm -f "$$log"' EXIT
 	rt fmt --check
 	rt ci | tee "$$log"
@@ -57,11 +78,11 @@ test:
 	tail -n 1 "$$log"
 
 # Times the engines beside the baselines and counts their instructions, in one run; fails where an answer differs or a promise is
-# not kept. Needs valgrind.
+# not kept.
 bench: tool
 	@cargo run --quiet --release --bin benchmark
 
-# Tries the C interface with libFuzzer for FUZZ_SECONDS, from the corpus that earlier runs left in target/fuzz. Needs clang.
+# Tries the C interface with libFuzzer for FUZZ_SECONDS, from the corpus that earlier runs left in target/fuzz.
 FUZZ_SECONDS ?= 600
 fuzz: library
 	@mkdir -p target/fuzz/corpus

@@ -1,20 +1,36 @@
-//! The documents: each command that they show is run, and must print what they show.
+//! The documents: each command that they show is run as it stands, from the top of the repository, and must
+//! print what they show.
 
 use crate::group::Group;
 use crate::process::{self, lossy, AT_ONCE};
 use crate::tool::expected::differing;
-use crate::tool::{Tool, PROGRAMS};
+use crate::tool::Tool;
 use std::fs;
+use std::os::unix::fs::{symlink, PermissionsExt};
 use std::path::Path;
 use std::process::Command;
 
 /// The top of the repository.
 const TOP: &str = concat!(env!("CARGO_MANIFEST_DIR"), "/..");
 
-const DOCUMENTS: [&str; 3] = ["README.md", "docs/USER-GUIDE.md", "docs/BUILDING-ON-IT.md"];
+const DOCUMENTS: [&str; 4] = [
+    "README.md",
+    "docs/USER-GUIDE.md",
+    "docs/BUILDING-ON-IT.md",
+    "docs/TRUST.md",
+];
 
 /// The files that the commands begin with, and those that they make.
 const EXAMPLE: &str = "docs/example";
+
+/// The copy of it in which the documents work; git does not see it.
+const WORKED: &str = "target/example";
+
+/// What is built and looked at by commands.
+const BUILT: [&str; 3] = ["target/bin", "target/library", "target/log"];
+
+/// Stands between what one command prints and the next.
+const BREAK: char = '\u{1e}';
 
 /// A command, the line of the document on which it stands, and what it must print.
 #[derive(Debug, PartialEq, Eq)]
@@ -92,41 +108,76 @@ fn example(folder: &Path) -> [Vec<String>; 2] {
     [given, made]
 }
 
-/// What a command prints, as at a terminal.
-fn printed(command: &str, folder: &Path) -> Result<String, String> {
-    let path = std::env::var("PATH").unwrap_or_default();
+/// All files of a folder but those that git does not see, by their paths.
+fn files(folder: &Path) -> Vec<String> {
+    let mut all = Vec::new();
+    let mut folders = vec![folder.to_path_buf()];
+    while let Some(next) = folders.pop() {
+        for entry in fs::read_dir(next).into_iter().flatten().flatten() {
+            let path = entry.path();
+            if path.is_dir() && path != folder.join("target") {
+                folders.push(path);
+            } else if !path.is_dir() {
+                all.push(lossy(path.as_os_str().as_encoded_bytes()));
+            }
+        }
+    }
+    all.sort();
+    all
+}
+
+/// A folder as the top of the repository is to who follows a document: with the example's files that the
+/// commands begin with, and with what has been built.
+fn prepare(top: &Path, folder: &Path, given: &[String]) -> std::io::Result<()> {
+    fs::create_dir_all(folder.join(EXAMPLE))?;
+    fs::create_dir_all(folder.join("target"))?;
+    for name in given {
+        let name = Path::new(EXAMPLE).join(name);
+        copy(&top.join(&name), &folder.join(&name))?;
+    }
+    for name in BUILT {
+        symlink(top.join(name), folder.join(name))?;
+    }
+    Ok(())
+}
+
+/// What each command prints, as at a terminal: one shell runs all of them.
+fn printed(commands: &[Shown], folder: &Path) -> Result<Vec<String>, String> {
+    let mut script = String::from("exec 2>&1\n");
+    for shown in commands {
+        script += &format!("{}\nprintf '\\036'\n", shown.command);
+    }
     let mut bash = Command::new("bash");
-    bash.current_dir(folder)
-        .env("PATH", format!("{PROGRAMS}:{path}"));
-    bash.env("LC_ALL", "C.UTF-8");
-    bash.args(["-c", &format!("exec 2>&1; {command}")]);
+    bash.current_dir(folder).env("LC_ALL", "C.UTF-8");
+    bash.args(["-c", &script]);
     let ran = process::run(&mut bash, b"", AT_ONCE);
     let ran = ran.map_err(|error| format!("bash, which these cases need: {error}"))?;
-    Ok(lossy(&ran.stdout))
+    let printed = lossy(&ran.stdout);
+    let mut parts: Vec<String> = printed.split(BREAK).map(String::from).collect();
+    let rest = parts.pop().unwrap_or_default();
+    if parts.len() != commands.len() || !rest.is_empty() {
+        return Err(format!("the shell ended after {} commands", parts.len()));
+    }
+    Ok(parts)
 }
 
 /// A thing that was looked at, and how it differs.
 type Checked = (String, Option<String>);
 
-/// Runs a document's commands one after another in a folder.
+/// Runs a document's commands one after another from a folder.
 fn run(document: &Path, folder: &Path) -> Result<Vec<Checked>, String> {
     let document = fs::read_to_string(document).map_err(|error| error.to_string())?;
-    let checked = |shown: Shown| {
-        let found = printed(&shown.command, folder);
-        let difference = match found {
-            Ok(found) => differing(found.as_bytes(), shown.printed.as_bytes()),
-            Err(error) => Some(error),
-        };
-        (
-            format!("line {}: {}", shown.line, shown.command),
-            difference,
-        )
-    };
-    Ok(commands(&document)?.into_iter().map(checked).collect())
+    let commands = commands(&document)?;
+    let printed = printed(&commands, folder)?;
+    let checked = commands.into_iter().zip(printed).map(|(shown, found)| {
+        let case = format!("line {}: {}", shown.line, shown.command);
+        (case, differing(found.as_bytes(), shown.printed.as_bytes()))
+    });
+    Ok(checked.collect())
 }
 
-/// Runs the commands of documents, each document in a folder of its own, and compares what is printed and
-/// what is made.
+/// Runs the commands of documents, each document in a folder of its own, and compares what is printed, what
+/// is made and what is left behind.
 fn check(top: &Path, scratch: &Path, documents: &[&str]) -> Vec<Checked> {
     let example_folder = top.join(EXAMPLE);
     let [given, made] = example(&example_folder);
@@ -134,10 +185,8 @@ fn check(top: &Path, scratch: &Path, documents: &[&str]) -> Vec<Checked> {
     let mut folders = Vec::new();
     for (number, name) in documents.iter().enumerate() {
         let folder = scratch.join(number.to_string());
-        fs::create_dir_all(&folder).expect("a folder can be made");
-        for name in &given {
-            copy(&example_folder.join(name), &folder.join(name)).expect("an example can be copied");
-        }
+        prepare(top, &folder, &given).expect("an example can be copied");
+        let before = files(&folder);
         let run = run(&top.join(name), &folder);
         all.push((
             format!("{name}, as a document"),
@@ -145,13 +194,16 @@ fn check(top: &Path, scratch: &Path, documents: &[&str]) -> Vec<Checked> {
         ));
         let run = run.unwrap_or_default().into_iter();
         all.extend(run.map(|(case, difference)| (format!("{name}, {case}"), difference)));
+        let after = files(&folder);
+        let left = (after != before).then(|| format!("{after:?}, before {before:?}"));
+        all.push((format!("{name}, what git would see"), left));
         folders.push(folder);
     }
     for name in made {
         let expected = fs::read(example_folder.join(&name)).expect("an example can be read");
         let found = folders
             .iter()
-            .filter_map(|folder| fs::read(folder.join(&name)).ok());
+            .filter_map(|folder| fs::read(folder.join(WORKED).join(&name)).ok());
         let found: Vec<Option<String>> = found.map(|found| differing(&found, &expected)).collect();
         let difference = match found.contains(&None) {
             true => None,
@@ -205,45 +257,60 @@ $ pwd
         g.equal(format_args!("{bad:?}"), commands(bad).is_err(), true);
     }
     let here = std::env::temp_dir();
-    for (command, expected) in [
-        ("echo a; echo b >&2", "a\nb\n"),
-        ("printf '%s %s\\n' \\\n    c \\\n    d", "c d\n"),
-        ("sigxume --version", "sigxume 0.1.0\n"),
-    ] {
-        let found = printed(command, &here);
-        g.equal(format_args!("{command}"), found, Ok(expected.into()));
-    }
+    let all = [
+        "echo a; echo b >&2",
+        "printf '%s %s\\n' \\\n    c \\\n    d",
+        "cd /; one=two",
+        "pwd; printf $one",
+        "false",
+    ];
+    let all = all.map(|command| shown(0, command, ""));
+    let due = ["a\nb\n", "c d\n", "", "/\ntwo", ""];
+    let due = due.map(String::from).to_vec();
+    g.equal(format_args!("one shell"), printed(&all, &here), Ok(due));
+    let cut = [shown(0, "exit", "")];
+    let cut = printed(&cut, &here).is_err();
+    g.equal(format_args!("a shell that ends"), cut, true);
 }
 
 /// Documents with known mistakes: each is seen, and nothing else.
 fn mistakes(g: &mut Group, tool: &Tool) {
-    let good = "```console\n$ cat a.txt b/c; echo x >&2\nA\nC\nx\n$ cat a.txt > made; cat a.txt > b.txt\n```\n";
-    let bad = "```console\n$ cat a.txt\nB\n$ echo\n$ printf x\nx\n$ cat b.txt\nA\n$ false\n```\n";
+    let good = "```console\n$ cp -r docs/example/. target/example; cd target/example\n\
+        $ cat a.txt b/c; echo x >&2\nA\nC\nx\n$ cat a.txt > made; cat a.txt > b.txt\n\
+        $ ../bin/tool\nT\n```\n";
+    let bad = "```console\n$ cd docs/example\n$ cat a.txt\nB\n$ echo\n$ printf x\nx\n\
+        $ cat b.txt\nA\n$ false\n$ cat a.txt > c.txt\n```\n";
     for (name, text) in [
         ("top/good.md", good),
         ("top/bad.md", bad),
         ("top/open.md", "```console\n"),
+        ("top/ended.md", "```console\n$ exit\n$ true\n```\n"),
         ("top/docs/example/a.txt", "A\n"),
         ("top/docs/example/b/c", "C\n"),
         ("top/docs/example/made", "A\n"),
         ("top/docs/example/left", "A\n"),
+        ("top/target/bin/tool", "#!/bin/sh\necho T\n"),
     ] {
         tool.put(name, text);
     }
-    let documents = ["good.md", "bad.md", "open.md", "none.md"];
     let top = tool.folder().join("top");
+    let runs = fs::Permissions::from_mode(0o755);
+    fs::set_permissions(top.join("target/bin/tool"), runs).expect("a file can be made a program");
+    let documents = ["good.md", "bad.md", "open.md", "ended.md", "none.md"];
     let checked = check(&top, &tool.folder().join("mistakes"), &documents);
-    g.equal(format_args!("mistakes: cases"), checked.len(), 13);
+    g.equal(format_args!("mistakes: cases"), checked.len(), 23);
     let seen = checked
         .iter()
         .filter(|(_, difference)| difference.is_some());
     let seen: Vec<&str> = seen.map(|(case, _)| &case[..]).collect();
     let expected = vec![
-        "bad.md, line 2: cat a.txt",
-        "bad.md, line 4: echo",
-        "bad.md, line 5: printf x",
-        "bad.md, line 7: cat b.txt",
+        "bad.md, line 3: cat a.txt",
+        "bad.md, line 5: echo",
+        "bad.md, line 6: printf x",
+        "bad.md, line 8: cat b.txt",
+        "bad.md, what git would see",
         "open.md, as a document",
+        "ended.md, as a document",
         "none.md, as a document",
         "docs/example/left",
     ];

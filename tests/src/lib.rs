@@ -18,6 +18,7 @@ pub mod records;
 pub mod reference;
 pub mod samples;
 pub mod series;
+pub mod stack;
 pub mod tool;
 pub mod wise;
 pub mod words;

@@ -58,12 +58,55 @@ pub fn refusals(g: &mut Group) {
     }
 }
 
-/// The C header has the same words for each refusal, and the same numbers.
+/// A text without C's comments, and with one space wherever it has any.
+fn plain_c(text: &str) -> String {
+    let parts = text.split("/*").enumerate().map(|(at, part)| match at {
+        0 => part,
+        _ => part.split_once("*/").expect("a comment ends").1,
+    });
+    let parts = Vec::from_iter(parts).join(" ");
+    Vec::from_iter(parts.split_whitespace()).join(" ")
+}
+
+/// The header's name of a refusal: SIGXUME_REFUSED_TOO_LONG of `TooLong`.
+fn enumerator(refusal: Refusal) -> String {
+    let mut name = String::from("SIGXUME_REFUSED");
+    for letter in format!("{refusal:?}").chars() {
+        if letter.is_ascii_uppercase() {
+            name.push('_');
+        }
+        name.push(letter.to_ascii_uppercase());
+    }
+    name
+}
+
+/// The C header has the same refusals with the same numbers and the same words, and the same constants.
 pub fn header(g: &mut Group) {
-    for refusal in Refusal::ALL {
-        let words = format!("return \"{}\";", refusal.reason());
-        let count = HEADER.matches(&words).count();
-        g.equal(format_args!("{refusal}"), count, 1);
+    let header = plain_c(HEADER);
+    let (_, after) = header
+        .split_once("enum sigxume_refusal {")
+        .unwrap_or_default();
+    let (inside, _) = after.split_once('}').unwrap_or_default();
+    let found = Vec::from_iter(inside.split(',').map(str::trim));
+    let refused = |&refusal| format!("{} = {}", enumerator(refusal), Refusal::number(refusal));
+    let accepted = "SIGXUME_ACCEPTED = 0".to_string();
+    let due = Vec::from_iter(
+        [accepted]
+            .into_iter()
+            .chain(Refusal::ALL.iter().map(refused)),
+    );
+    g.equal(format_args!("enumerators"), found.len(), due.len());
+    for (at, line) in due.iter().enumerate() {
+        let found = found.get(at).copied();
+        g.equal(format_args!("enumerator {at}"), found, Some(&line[..]));
+    }
+    let cases = header.matches("case SIGXUME_").count();
+    g.equal(format_args!("cases"), cases, due.len());
+    for &refusal in Refusal::ALL {
+        let (name, reason) = (enumerator(refusal), refusal.reason());
+        let case = format!("case {name}: return \"{reason}\";");
+        let count = header.matches(&case).count();
+        g.equal(format_args!("{case}"), count, 1);
     }
     let workspace = workspace_words(MAX_WORDS, MAX_WORDS);
     let settings = Settings::for_minimum(1);

@@ -1,6 +1,7 @@
 // The functions that Rust and C call. A slice is passed as a pointer and then a length. Each only hands on to the crate that
 // has the work, and none asks anything of its caller: what cannot be done is refused by its number.
 use record::ReadAnswer;
+use search::Settings;
 use symbol::Counted;
 use tiling::Compared;
 ghost use mathlib.Core.Path.{_≡_};
@@ -90,14 +91,10 @@ pub extern "C" fn sigxume_compare_fast(
 ) -> Compared
     ensures { λ r. ⌜ Fast (now (first .entry)) (now (second .entry)) minimum buckets start (now (workspace .entry)) (now (tiles .entry)) r (now (workspace .exit)) (now (tiles .exit)) ⌝ }
 {
-    search::compare(
-        first,
-        second,
-        minimum,
+    let settings = Settings {
         multiplier,
         buckets,
         start,
-        workspace,
-        tiles,
-    )
+    };
+    search::compare(first, second, minimum, settings, workspace, tiles)
 }

@@ -1,4 +1,5 @@
 // The pair program's report: from the bytes of its input to the bytes of its output.
+use search::Settings;
 use tiling::Compared;
 ghost use mathlib.Core.Path.{_≡_};
 ghost use mathlib.Core.List.{List, [], _∷_};
@@ -163,14 +164,16 @@ fn search_pair(first: &[u32], second: &[u32], minimum: u32, tiles: &mut [u32]) -
     ensures { λ r. ⌜ Searched (now (first .entry)) (now (second .entry)) minimum r (now (tiles .exit)) ⌝ }
 {
     let mut workspace = [0u32; 16384];
-    let start = search_length(minimum);
+    let settings = Settings {
+        multiplier: 257,
+        buckets: 256,
+        start: search_length(minimum),
+    };
     search::compare(
         first,
         second,
         minimum,
-        257,
-        256,
-        start,
+        settings,
         &mut workspace,
         tiles,
     )

@@ -9,7 +9,7 @@ use sigxume_tests::tool::{
     bad_lines, bad_records, compare, json, matrix, matrix_bad, matrix_large, options, output, plot,
     progress, round_trips, usage,
 };
-use sigxume_tests::{baselines, documents, hashes, known, library, program, records, words};
+use sigxume_tests::{baselines, documents, hashes, known, library, program, records, stack, words};
 use std::process::ExitCode;
 use std::thread;
 
@@ -17,7 +17,7 @@ use std::thread;
 type Row = (&'static str, u64, fn(&mut Group));
 
 #[rustfmt::skip]
-const GROUPS: [Row; 83] = [
+const GROUPS: [Row; 86] = [
     ("reference: known pairs", 1, known::pairs),
     ("reference: known windows", 2, known::windows),
     ("reference: worked example", 3, known::example),
@@ -77,6 +77,9 @@ const GROUPS: [Row; 83] = [
     ("library: comparisons", 79, library::comparisons),
     ("library: one comparer", 80, library::comparer),
     ("library: hashes", 81, library::hashes),
+    ("stack: engines", 83, stack::engines),
+    ("stack: other functions", 84, stack::others),
+    ("stack: pair program", 85, stack::pair_program),
     ("program: known pairs", 51, program::known),
     ("program: random pairs", 52, program::random),
     ("program: larger pairs", 53, program::larger),
