@@ -29,7 +29,7 @@ pub fn bucket_of(h: u32, buckets: u32) -> usize
 }
 
 // The entry of the filter that a hash has.
-pub fn slot_of(h: u32) -> usize
+fn slot_of(h: u32) -> usize
     ensures { λ r. ⌜ (r ≡ slot h) × (r < 16384) ⌝ }
 {
     ((h as u64) * 2654435769 % 0x1_0000_0000 / 0x4_0000) as usize

@@ -18,7 +18,7 @@ pub fn is_call(w: u32) -> bool
 }
 
 // Whether a word may stand in a sequence: a call or the no-call.
-pub fn is_sound(w: u32) -> bool
+fn is_sound(w: u32) -> bool
     ensures { λ r. ⌜ r ≡ isSound w ⌝ }
 {
     is_call(w) || w == 0x8000_0000

@@ -14,7 +14,7 @@ pub struct PatternAt(pub usize);
 pub struct TextAt(pub usize);
 
 // How many words match one by one from the start of two parts.
-pub fn run_length(pattern: &[u32], text: &[u32]) -> usize
+fn run_length(pattern: &[u32], text: &[u32]) -> usize
     ensures { λ r. ⌜ r ≡ run (now (pattern .entry)) (now (text .entry)) ⌝ }
 {
     let mut n = 0;
