@@ -72,10 +72,13 @@ pub fn close(ws: &mut [u32], job: Job, totals: Totals) -> Compared
 {
     let words = ws.len();
     tile::mark_words(ws, 0, words);
+    let tiles = totals.count as u32;
+    let covered = totals.covered as u32;
+    let score = tile::score_of(totals.covered, job.n + job.m);
     Compared {
         refusal: 0,
-        tiles: totals.count as u32,
-        covered: totals.covered as u32,
-        score: tile::score_of(totals.covered, job.n + job.m),
+        tiles,
+        covered,
+        score,
     }
 }

@@ -8,11 +8,11 @@ use Rattle.ends.proofs.close.Tie as tie
 mark-words-requires : tie.Need-mark-words-requires
 mark-words-requires c κs = search needs
 
-cast-t8 : tie.Need-cast-t8
-cast-t8 c = search needs
+cast-tiles : tie.Need-cast-tiles
+cast-tiles c = search needs
 
-cast-t9 : tie.Need-cast-t9
-cast-t9 c = search needs
+cast-covered : tie.Need-cast-covered
+cast-covered c = search needs
 
 add-score-of : tie.Need-add-score-of
 add-score-of c = search needs
@@ -31,8 +31,8 @@ close-spec =
     tie.close
     (tie.spec
     mark-words-requires
-    cast-t8
-    cast-t9
+    cast-tiles
+    cast-covered
     add-score-of
     score-of-requires
     same-length
