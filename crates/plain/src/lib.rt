@@ -1,4 +1,4 @@
-// The plain engine: it looks at every pair of positions, and at no hash.
+// The plain engine: any pair of positions may be looked at, and no hash.
 use sweep::Found;
 use sweep::Job;
 use sweep::Totals;

@@ -169,14 +169,7 @@ fn search_pair(first: &[u32], second: &[u32], minimum: u32, tiles: &mut [u32]) -
         buckets: 256,
         start: search_length(minimum),
     };
-    search::compare(
-        first,
-        second,
-        minimum,
-        settings,
-        &mut workspace,
-        tiles,
-    )
+    search::compare(first, second, minimum, settings, &mut workspace, tiles)
 }
 
 // Compares two sequences and writes the report.
