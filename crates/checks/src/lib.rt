@@ -4,7 +4,7 @@ ghost use Prim.Native.Nat.{_/_, _≤_, min};
 ghost use Rattle.tiling.specs.Comparing.{sequences, minimums, settings, room};
 
 // The checks of the sequences: 1 for more than 2,048 words, 2 for an unsound word.
-pub fn sequences_refusal(first: &[u32], second: &[u32]) -> u32
+fn sequences_refusal(first: &[u32], second: &[u32]) -> u32
     ensures { λ r. ⌜ r ≡ sequences (now (first .entry)) (now (second .entry)) 0 ⌝ }
 {
     if 2048 < first.len() {
@@ -23,7 +23,7 @@ pub fn sequences_refusal(first: &[u32], second: &[u32]) -> u32
 }
 
 // The check of the minimum: 3 outside 1 to 256.
-pub fn minimum_refusal(minimum: u32) -> u32
+fn minimum_refusal(minimum: u32) -> u32
     ensures { λ r. ⌜ r ≡ minimums minimum 0 ⌝ }
 {
     if minimum == 0 {
@@ -33,6 +33,17 @@ pub fn minimum_refusal(minimum: u32) -> u32
         return 3;
     }
     0
+}
+
+// The checks that every comparison begins with: 1 and 2 of the sequences, then 3 of the minimum.
+pub fn pair_refusal(first: &[u32], second: &[u32], minimum: u32) -> u32
+    ensures { λ r. ⌜ r ≡ sequences (now (first .entry)) (now (second .entry)) (minimums minimum 0) ⌝ }
+{
+    let of_sequences = sequences_refusal(first, second);
+    if of_sequences != 0 {
+        return of_sequences;
+    }
+    minimum_refusal(minimum)
 }
 
 // The checks of the search's settings: 4 for a bucket count outside 1 to 1,024, 5 for a first search length below the minimum

@@ -135,13 +135,9 @@ fn tile_all(ws: &mut [u32], job: Job, tiles: &mut [u32], totals: Totals) -> Tota
 fn plain_refusal(first: &[u32], second: &[u32], minimum: u32, workspace: usize, tiles: usize) -> u32
     ensures { λ r. ⌜ r ≡ plainRefusal (now (first .entry)) (now (second .entry)) minimum workspace tiles ⌝ }
 {
-    let of_sequences = checks::sequences_refusal(first, second);
-    if of_sequences != 0 {
-        return of_sequences;
-    }
-    let of_minimum = checks::minimum_refusal(minimum);
-    if of_minimum != 0 {
-        return of_minimum;
+    let of_pair = checks::pair_refusal(first, second, minimum);
+    if of_pair != 0 {
+        return of_pair;
     }
     checks::room_refusal(
         first.len(),

@@ -24,13 +24,9 @@ fn fast_refusal(
 ) -> u32
     ensures { λ r. ⌜ r ≡ fastRefusal (now (first .entry)) (now (second .entry)) minimum (settings .buckets) (settings .start) workspace tiles ⌝ }
 {
-    let of_sequences = checks::sequences_refusal(first, second);
-    if of_sequences != 0 {
-        return of_sequences;
-    }
-    let of_minimum = checks::minimum_refusal(minimum);
-    if of_minimum != 0 {
-        return of_minimum;
+    let of_pair = checks::pair_refusal(first, second, minimum);
+    if of_pair != 0 {
+        return of_pair;
     }
     let of_settings = checks::settings_refusal(minimum, settings.buckets, settings.start);
     if of_settings != 0 {

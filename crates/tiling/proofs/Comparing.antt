@@ -189,56 +189,61 @@ fast-refusal-exchange first second minimum buckets start workspace tiles =
     sequences-exchange first second _
     ∙ ap (λ k. sequences second first (minimums minimum (settings minimum buckets start k))) (room-exchange (length first) (length second) minimum workspace tiles 0)
 
--- The same of the numbers that the code of the parts answered.
-pub first-short-of : (first second : List ℕ) (q : ℕ) → q ≡ sequences first second 0 → q ≡ 0 → length first ≤ 2048
-first-short-of first second q e z = sequences-clear first second 0 (sym e ∙ z) .first-short
-
-pub second-short-of : (first second : List ℕ) (q : ℕ) → q ≡ sequences first second 0 → q ≡ 0 → length second ≤ 2048
-second-short-of first second q e z = sequences-clear first second 0 (sym e ∙ z) .second-short
-
-pub minimum-of : (minimum r : ℕ) → r ≡ minimums minimum 0 → r ≡ 0 → 1 ≤ minimum
-minimum-of minimum r e z = minimums-clear minimum 0 (sym e ∙ z) .least
-
 -- ---- the parts of the chain
-pub sequences-part : (first second : List ℕ) → Part (sequences first second)
+sequences-part : (first second : List ℕ) → Part (sequences first second)
 sequences-part first second =
     part-cause _ (tooLong first) 1 (omega arith)
     (part-cause _ (tooLong second) 1 (omega arith)
     (part-cause _ (not (allSound first)) 2 (omega arith) (part-cause _ (not (allSound second)) 2 (omega arith) part-end)))
 
-pub minimums-part : (minimum : ℕ) → Part (minimums minimum)
-minimums-part minimum = part-cause _ (eqb minimum 0) 3 (omega arith) (part-cause _ (ltb 256 minimum) 3 (omega arith) part-end)
+comparable-part : (first second : List ℕ) (minimum : ℕ) → Part (λ k. sequences first second (minimums minimum k))
+comparable-part first second minimum =
+    part-cause _ (tooLong first) 1 (omega arith)
+    (part-cause _ (tooLong second) 1 (omega arith)
+    (part-cause _ (not (allSound first)) 2 (omega arith)
+    (part-cause _ (not (allSound second)) 2 (omega arith)
+    (part-cause _ (eqb minimum 0) 3 (omega arith) (part-cause _ (ltb 256 minimum) 3 (omega arith) part-end)))))
 
-pub settings-part : (minimum buckets start : ℕ) → Part (settings minimum buckets start)
+settings-part : (minimum buckets start : ℕ) → Part (settings minimum buckets start)
 settings-part minimum buckets start =
     part-cause _ (eqb buckets 0) 4 (omega arith)
     (part-cause _ (ltb 1024 buckets) 4 (omega arith)
     (part-cause _ (ltb start minimum) 5 (omega arith) (part-cause _ (ltb 2048 start) 5 (omega arith) part-end)))
 
--- A cause of the sequences stops the chain, then one of the minimum, and then what comes later decides.
-module _ (first second : List ℕ) (minimum later q : ℕ) (of-sequences : q ≡ sequences first second 0) where
-  pub sequences-refused : (q ≡ 0 → ⊥) → q ≡ sequences first second (minimums minimum later)
-  sequences-refused d = part-stops (sequences first second) (sequences-part first second) q (minimums minimum later) of-sequences d
+-- What the code of the parts answered. A cause of the sequences stops the chain, and then the minimum decides.
+module _ (first second : List ℕ) (minimum q : ℕ) (of-sequences : q ≡ sequences first second 0) where
+  pub sequences-refused : (q ≡ 0 → ⊥) → q ≡ sequences first second (minimums minimum 0)
+  sequences-refused = part-stops (sequences first second) (sequences-part first second) q (minimums minimum 0) of-sequences
 
-  module _ (passed : q ≡ 0) (r : ℕ) (of-minimum : r ≡ minimums minimum 0) where
-    pub minimum-refused : (r ≡ 0 → ⊥) → r ≡ sequences first second (minimums minimum later)
-    minimum-refused d =
-        part-goes (sequences first second) (sequences-part first second) q r (minimums minimum later) of-sequences passed
-        (part-stops (minimums minimum) (minimums-part minimum) r later of-minimum d)
+  pub minimum-decides : q ≡ 0 → (r : ℕ) → r ≡ minimums minimum 0 → r ≡ sequences first second (minimums minimum 0)
+  minimum-decides z r = part-goes (sequences first second) (sequences-part first second) q r (minimums minimum 0) of-sequences z
 
-    pub later-decides : r ≡ 0 → (z : ℕ) → z ≡ later → z ≡ sequences first second (minimums minimum later)
-    later-decides e z k =
-        part-goes (sequences first second) (sequences-part first second) q z (minimums minimum later) of-sequences passed
-        (part-goes (minimums minimum) (minimums-part minimum) r z later of-minimum e k)
+-- A cause of both stops the chain, and then what comes later decides.
+module _ (first second : List ℕ) (minimum q : ℕ) (of-pair : q ≡ sequences first second (minimums minimum 0)) where
+  pub pair-refused : (later : ℕ) → (q ≡ 0 → ⊥) → q ≡ sequences first second (minimums minimum later)
+  pair-refused later = part-stops _ (comparable-part first second minimum) q later of-pair
 
--- With the search's settings between: a cause of them stops the chain, and then what comes last decides.
-module _ (first second : List ℕ) (minimum buckets start last q : ℕ) (of-sequences : q ≡ sequences first second 0) (passed : q ≡ 0) (r : ℕ) (of-minimum : r ≡ minimums minimum 0) (e : r ≡ 0) (v : ℕ) (of-settings : v ≡ settings minimum buckets start 0) where
-  pub settings-refused : (v ≡ 0 → ⊥) → v ≡ sequences first second (minimums minimum (settings minimum buckets start last))
-  settings-refused d =
-      later-decides first second minimum (settings minimum buckets start last) q of-sequences passed r of-minimum e v
-      (part-stops (settings minimum buckets start) (settings-part minimum buckets start) v last of-settings d)
+  module _ (z : q ≡ 0) where
+    pub first-short-of : length first ≤ 2048
+    first-short-of = comparable first second minimum 0 (sym of-pair ∙ z) .first-short
 
-  pub last-decides : v ≡ 0 → (z : ℕ) → z ≡ last → z ≡ sequences first second (minimums minimum (settings minimum buckets start last))
-  last-decides k z h =
-      later-decides first second minimum (settings minimum buckets start last) q of-sequences passed r of-minimum e z
-      (part-goes (settings minimum buckets start) (settings-part minimum buckets start) v z last of-settings k h)
+    pub second-short-of : length second ≤ 2048
+    second-short-of = comparable first second minimum 0 (sym of-pair ∙ z) .second-short
+
+    pub minimum-of : 1 ≤ minimum
+    minimum-of = comparable first second minimum 0 (sym of-pair ∙ z) .least
+
+    pub later-decides : (later r : ℕ) → r ≡ later → r ≡ sequences first second (minimums minimum later)
+    later-decides later r = part-goes _ (comparable-part first second minimum) q r later of-pair z
+
+    -- With the search's settings between: a cause of them stops the chain, and then what comes last decides.
+    module _ (buckets start last v : ℕ) (of-settings : v ≡ settings minimum buckets start 0) where
+      pub settings-refused : (v ≡ 0 → ⊥) → v ≡ sequences first second (minimums minimum (settings minimum buckets start last))
+      settings-refused d =
+          later-decides (settings minimum buckets start last) v
+          (part-stops (settings minimum buckets start) (settings-part minimum buckets start) v last of-settings d)
+
+      pub last-decides : v ≡ 0 → (r : ℕ) → r ≡ last → r ≡ sequences first second (minimums minimum (settings minimum buckets start last))
+      last-decides k r h =
+          later-decides (settings minimum buckets start last) r
+          (part-goes (settings minimum buckets start) (settings-part minimum buckets start) v r last of-settings k h)

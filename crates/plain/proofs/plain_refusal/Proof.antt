@@ -1,35 +1,22 @@
--- `plain::plain_refusal` meets its contract: a cause of the sequences stops the chain, then one of the minimum, and then the room decides.
+-- `plain::plain_refusal` meets its contract: a cause of the pair stops the chain, and then the room decides.
 -- Assumes nothing.
-use Rattle.tiling.proofs.Comparing.{first-short-of, second-short-of, minimum-of, sequences-refused, minimum-refused, later-decides}
+use Rattle.tiling.proofs.Comparing.{pair-refused, first-short-of, second-short-of, minimum-of, later-decides}
 use borrow.Author.Needs.{needs}
 use Rattle.plain.proofs.plain_refusal.Statement.{statement}
 use Rattle.plain.proofs.plain_refusal.Tie as tie
 
-sequences-refusal-requires : tie.Need-sequences-refusal-requires
-sequences-refusal-requires c κs = search needs
+pair-refusal-requires : tie.Need-pair-refusal-requires
+pair-refusal-requires c κs = search needs
 
 returns : tie.Need-returns
-returns c = search sequences-refused
-
-minimum-refusal-requires : tie.Need-minimum-refusal-requires
-minimum-refusal-requires c κs = search needs
-
-returns-2 : tie.Need-returns-2
-returns-2 c = search minimum-refused
+returns c = search pair-refused
 
 room-refusal-requires : tie.Need-room-refusal-requires
 room-refusal-requires c κs = (search first-short-of, search second-short-of, search minimum-of)
 
-returns-3 : tie.Need-returns-3
-returns-3 c = search later-decides
+returns-2 : tie.Need-returns-2
+returns-2 c = search later-decides
 
 pub plain-refusal-spec : {M : Type 1} → statement M
 plain-refusal-spec =
-    tie.close
-    (tie.spec
-    sequences-refusal-requires
-    returns
-    minimum-refusal-requires
-    returns-2
-    room-refusal-requires
-    returns-3)
+    tie.close (tie.spec pair-refusal-requires returns room-refusal-requires returns-2)
