@@ -1,6 +1,7 @@
 //! Compares two motif sequences by greedy string tiling (Wise, 1993). The work is done by a core
 //! written in Rattle and proved for every input: it answers what the definition of the tiling says,
-//! it touches nothing but what it is lent, and it ends. This crate only hands on to it.
+//! it touches nothing but what it is lent, and it ends. This crate holds buffers and
+//! hands on to it.
 //!
 //! A **word** has 32 bits: the call of a motif code, or the no-call, which matches nothing.
 //! [`Symbol`] makes words. A **sequence** is a slice of up to [`MAX_WORDS`] of them, and a

@@ -54,7 +54,8 @@ pub record Linked (x : Pass) (ws ws' hs : List ℕ) (fs : List Bool) : Type 0 wh
   pub known : (t : ℕ) → x .s ≤ freeAt (x .job) ws' t → getD fs (slot (textHash (x .job) ws' t)) false ≡ true
 
 -- The index was built, and the sequences are as they were. The hashes are 01's, of the windows of s words and for this multiplier; heads and
--- links are those of their buckets. Where no window fits, what stands in the place of its hash is left open.
+-- links are those of their buckets. Where no window fits, what stands in the place of its hash is left open; only free windows are linked, and
+-- equal hashes are only a reason to look at the words.
 pub record Built (x : Pass) (ws ws' hs : List ℕ) (fs : List Bool) : Type 0 where
   pub same : state (x .job) ws' ≡ state (x .job) ws
   pub on-pattern : (p : ℕ) → p + x .s ≤ x .job .n → patternHash (x .job) ws' p ≡ hashAt (x .multiplier) (x .s) (state (x .job) ws .pattern) p

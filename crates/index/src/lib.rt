@@ -60,7 +60,7 @@ fn wide(w: u32) -> usize
     w as usize
 }
 
-// The next position of the text in the same bucket; after the last, one past the text.
+// The next position of the text in the same bucket; after the last, 2,048, which is past every text.
 pub fn next_text(ws: &[u32], job: Job, t: TextAt) -> TextAt
     requires { ⌜ Space job (now ws) × (t .0 < job .m) ⌝ }
     ensures { λ r. ⌜ r .0 ≡ link job (now (ws .entry)) (t .0) ⌝ }
@@ -69,7 +69,7 @@ pub fn next_text(ws: &[u32], job: Job, t: TextAt) -> TextAt
     TextAt(wide(ws[at]))
 }
 
-// The first position of the text in a bucket; where there is none, one past the text.
+// The first position of the text in a bucket; where there is none, 2,048, which is past every text.
 pub fn first_text(heads: &[u32; 1024], bucket: usize) -> TextAt
     requires { ⌜ bucket < 1024 ⌝ }
     ensures { λ r. ⌜ r .0 ≡ getD (now (heads .entry)) bucket 0 ⌝ }
@@ -159,7 +159,7 @@ fn link_windows(ws: &mut [u32], pass: Pass, heads: &mut [u32; 1024], seen: &mut 
 }
 
 // Hashes every window of s words and links the text's free windows by bucket, from right to left, so that each chain rises.
-// Every head must be past the text; of the filter nothing is asked, since an entry that is true too often does no harm.
+// Every head must be 2,048, past every text; of the filter nothing is asked, since an entry that is true too often does no harm.
 pub fn build(ws: &mut [u32], pass: Pass, heads: &mut [u32; 1024], seen: &mut [bool; 16384])
     requires { ⌜ Space (pass .job) (now ws) × Ranges pass × (now heads ≡ replicate 1024 2048) ⌝ }
     ensures { λ r. ⌜ Built pass (now (ws .entry)) (now (ws .exit)) (now (heads .exit)) (now (seen .exit)) ⌝ }

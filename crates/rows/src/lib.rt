@@ -184,8 +184,8 @@ pub fn fill_bounds(ws: &mut [u32], pass: Pass, heads: &[u32; 1024], seen: &[bool
     sweep::greatest_bound(ws, pass.job)
 }
 
-// The length of a run of more than 2 s words, where one is met in every s-th row; else 0. It looks for 2 s words, since two
-// windows of s words cover just that many: the words are looked at only where both have the same hashes.
+// The length of a run of more than 2 s words, where one is met in a row whose position is a multiple of s; else 0. It looks for
+// 2 s words, since two windows of s words cover just that many: the words are looked at only where both have the same hashes.
 fn probe(ws: &[u32], pass: Pass, heads: &[u32; 1024], seen: &[bool; 16384]) -> usize
     requires { ⌜ Space (pass .job) (now ws) × Indexed pass (now ws) (now heads) (now seen) × Ranges pass ⌝ }
     ensures { λ r. ⌜ Probed pass (now (ws .entry)) r ⌝ }

@@ -41,12 +41,11 @@ fn fast_refusal(
     )
 }
 
-// Compares two sequences by greedy string tiling with a minimum length of tiles, by a search that is set
-// as given. The answer, the tiles and what is left of workspace and tile buffer are those of the plain
-// engine, whatever the settings. Refused: 1 for more than 2,048 words, 2 for an unsound word, 3 for a minimum outside 1 to 256,
-// 4 for a bucket count outside 1 to 1,024, 5 for a first search length below the minimum or above 2,048, 6 for a workspace
-// of fewer than 4 words for each word of both sequences, 7 for a tile buffer too short; workspace and tile buffer are then as
-// they were.
+// Compares two sequences by greedy string tiling with a minimum length of tiles, by a search that is set as given. The answer,
+// the tiles and what is left of workspace and tile buffer are those of the plain engine, whatever settings in range are given.
+// Refused: 1 for more than 2,048 words, 2 for an unsound word, 3 for a minimum outside 1 to 256, 4 for a bucket count outside 1
+// to 1,024, 5 for a first search length below the minimum or above 2,048, 6 for a workspace of fewer than 4 words for each word
+// of both sequences, 7 for a tile buffer too short; workspace and tile buffer are then as they were.
 pub fn compare(
     first: &[u32],
     second: &[u32],
