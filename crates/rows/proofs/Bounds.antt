@@ -8,6 +8,8 @@ use native.Mathlib.Omega.{arith}
 use mathlib.Core.Path.{_≡_, refl, sym, _∙_, ap, subst}
 use mathlib.Core.Bool.{Bool, true, false}
 use mathlib.Core.List.{List}
+use borrow.Author.Tests.{eqb-true}
+use lib.Dec.{eqb}
 use lib.ListN.{length, drop, getD, set, length-set, length-drop}
 use lib.Seq.{drop-cons, getD-drop, getD-take, getD-set-same, getD-set-other}
 use Rattle.symbol.specs.Word.{isCall, matches}
@@ -23,7 +25,7 @@ use Rattle.sweep.specs.Row.{Greatest}
 use Rattle.sweep.specs.declared.Found.{Found}
 use Rattle.sweep.specs.declared.Job.{Job}
 use Rattle.sweep.proofs.Workspace.{state-set, space-kept, pattern-length, text-length}
-use Rattle.index.specs.Indexed.{Ranges, Indexed}
+use Rattle.index.specs.Indexed.{Ranges, Indexed, patternHash, textHash}
 use Rattle.index.specs.declared.Pass.{Pass}
 use Rattle.index.proofs.Kept.{indexed-set}
 use Rattle.rows.specs.Reached.{Reached, Further, RowBound, RowRun, Run, FilledRows, Probed, Measured}
@@ -230,8 +232,9 @@ measured-filled x heads seen ws ws' r f g =
 pub goes-nowhere : (j : Job) (ws : List ℕ) (p t : ℕ) → false ≡ true → Further j ws p t
 goes-nowhere j ws p t e = let z : _≡_ {A = ℕ} 0 1 = cc in absurd (omega arith)
 
-pub goes-further : (j : Job) (ws : List ℕ) (p t : ℕ) → (t ≡ 0 → ⊥) → t ≤ j .m → (b : Bool) → b ≡ matches (getD ws p 0) (getD ws (j .n + t - 1) 0) → b ≡ true → Further j ws p t
-goes-further j ws p t some within b m e = record { some = omega (arith, some); within = within; match = sym m ∙ e }
+pub goes-further : (j : Job) (ws : List ℕ) (p t : ℕ) → (t ≡ 0 → ⊥) → t ≤ j .m → (h : Bool) → h ≡ eqb (textHash j ws (t - 1)) (patternHash j ws p) → h ≡ true → (b : Bool) → b ≡ matches (getD ws p 0) (getD ws (j .n + t - 1) 0) → b ≡ true → Further j ws p t
+goes-further j ws p t some within h k z b m e =
+    record { some = omega (arith, some); within = within; kin = eqb-true (textHash j ws (t - 1)) (patternHash j ws p) (sym k ∙ z); match = sym m ∙ e }
 
 pub goes-back : (j : Job) (ws : List ℕ) (p t : ℕ) (b : Bool) → (b ≡ true → Further j ws p t) → b ≡ true → 1 ≤ t
 goes-back j ws p t b f e = f e .some

@@ -28,10 +28,11 @@ pub record Reached (ps ts : List ℕ) (floor cap : ℕ) (f : Found) : Type 0 whe
   pub first : floor < f .len → (u : ℕ) → u < f .t .0 → run ps (drop u ts) < f .len
   pub placed : 1 ≤ f .t .0 → floor < f .len
 
--- The words at p and just before t match.
+-- The windows at p and just before t have the same hash, and the words there match.
 pub record Further (j : Job) (ws : List ℕ) (p t : ℕ) : Type 0 where
   pub some : 1 ≤ t
   pub within : t ≤ j .m
+  pub kin : textHash j ws (t - 1) ≡ patternHash j ws p
   pub match : matches (getD ws p 0) (getD ws (j .n + t - 1) 0) ≡ true
 
 -- No run of the row at p exceeds the length found, and so many words fit there. From s words on it is the length of the run at the position

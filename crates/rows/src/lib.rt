@@ -206,7 +206,7 @@ fn probe(ws: &[u32], pass: Pass, heads: &[u32; 1024], seen: &[bool; 16384]) -> u
     0
 }
 
-// The length of a run of more than 2 s words, if there is one; else the bounds are set, and it is the greatest of them.
+// The length of a run of more than 2 s words, if one is met; else the bounds are set, and it is the greatest of them.
 pub fn longest(ws: &mut [u32], pass: Pass, heads: &[u32; 1024], seen: &[bool; 16384]) -> usize
     requires { ⌜ Space (pass .job) (now ws) × Indexed pass (now ws) (now heads) (now seen) × Ranges pass ⌝ }
     ensures { λ r. ⌜ Measured pass (now (heads .entry)) (now (seen .entry)) (now (ws .entry)) (now (ws .exit)) r ⌝ }

@@ -1,6 +1,7 @@
--- `rows::goes_on` meets its contract: where it is true the position was tested, and the words before it match.
+-- `rows::goes_on` meets its contract: where it is true the position and the hashes were tested, and the words before it match.
 -- Assumes nothing.
 use Rattle.rows.proofs.Bounds.{goes-nowhere, goes-further}
+use borrow.Author.Tests.{not-false}
 use borrow.Author.Needs.{needs}
 use Rattle.rows.proofs.goes_on.Statement.{statement}
 use Rattle.rows.proofs.goes_on.Tie as tie
@@ -42,7 +43,7 @@ words-match-requires : tie.Need-words-match-requires
 words-match-requires c κs = search needs
 
 returns-4 : tie.Need-returns-4
-returns-4 c = search goes-further
+returns-4 c = search (goes-further, not-false)
 
 pub goes-on-spec : {M : Type 1} → statement M
 goes-on-spec =
