@@ -2,7 +2,7 @@
 -- Assumes nothing.
 use Prim.Native.Nat.{ℕ, _+_}
 use native.Mathlib.Omega.{arith}
-use mathlib.Core.Path.{_≡_, refl, sym, _∙_, ap}
+use mathlib.Core.Path.{_≡_, refl, sym, _∙_, ap, subst}
 use mathlib.Core.List.{List}
 use lib.ListN.{length, replicate}
 use Rattle.symbol.specs.Refusal.{outcome}
@@ -41,6 +41,10 @@ module _ (first second : List ℕ) (minimum : ℕ) (ws b : List ℕ) (r q : ℕ)
         tiles = kept r q e (onto (tileWords tiles) b) b d;
         workspace = kept r q e (replicate (length ws) 0) ws d;
       }
+
+  -- What was compared where no cause holds.
+  pub compare-passed : r ≡ 0 → (a : Compared) (ws' b' : List ℕ) → Compares 0 first second minimum ws b a ws' b' → Compares q first second minimum ws b a ws' b'
+  compare-passed z a ws' b' c = subst (λ n. Compares n first second minimum ws b a ws' b') (sym z ∙ e) c
 
   pub compare-accepted : r ≡ 0 → Comparable first second minimum → Roomy (length first) (length second) minimum (length ws) (length b) → (j : Job) (ws₁ : List ℕ) → Opened first second minimum ws j ws₁ → (ws₂ b' : List ℕ) (k : Totals) → Finished j (j .minimum) ws₁ b noTiles ws₂ b' k → length ws₁ ≡ length ws → length ws₂ ≡ length ws₁ → (a : Compared) (ws₃ : List ℕ) → Closed j k ws₂ a ws₃ → Compares q first second minimum ws b a ws₃ b'
   compare-accepted z c room j ws₁ o ws₂ b' k f opened tiled a ws₃ d =

@@ -2,4 +2,3 @@ pub mod Scan
 pub mod View
 pub mod Fill
 pub mod Accepted
-pub mod Laws

@@ -16,7 +16,7 @@ use Rattle.tiling.specs.Demand.{Stands, tilesIn}
 use Rattle.tiling.specs.declared.Compared.{Compared}
 use Rattle.tiling.proofs.Comparing.{comparable}
 use Rattle.tiling.proofs.Each.{each-both}
-use Rattle.tiling.proofs.Answers.{answers-number, answers-listed, answers-tiles, answers-covered, answers-score, answers-tiled}
+use Rattle.tiling.proofs.Answers.{answers-number, answers-listed, answers-demands}
 use Rattle.tiling.proofs.Demand.{tiles-fit}
 use Rattle.search.specs.Promise.{Fast}
 use Rattle.report.specs.Pair.{refusedLine, comparing, pairLines, fromPair}
@@ -44,17 +44,18 @@ module _ {first second : List ℕ} {minimum start : ℕ} {ws b : List ℕ} {a : 
 
   laid : a .refusal ≡ 0 → Laid (length first) (length second) a b'
   laid z =
-      let one : 1 ≤ minimum = comparable first second minimum _ (answers-number fast z) .least in
-      let t = answers-tiled fast z one in
+      let known = comparable first second minimum _ (answers-number fast z) in
+      let one = known .least in
+      let d = answers-demands fast z known in
       let n = min (length first) (length second) in
-      let counted : a .tiles ≡ length (listing first second minimum) = answers-tiles fast z ∙ ap length (answers-listed fast z) in
+      let counted : a .tiles ≡ length (listing first second minimum) = d .tiles ∙ ap length (answers-listed fast z) in
       let few : a .tiles ≤ 2048 = omega (arith, tiles-fit first second minimum one, div-le-self n minimum, counted) in
       record {
         few = few;
         room = omega arith;
-        starts = starts-below f s one (t .stands) (t .each-long);
-        covered = answers-covered fast z;
-        score = answers-score fast z;
+        starts = starts-below f s one (d .tiled .stands) (d .tiled .each-long);
+        covered = d .covered;
+        score = d .score;
       }
 
   pub searched : Searched first second minimum a b'

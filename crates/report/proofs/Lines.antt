@@ -19,7 +19,7 @@ use Rattle.tile.proofs.Difference.{difference-size}
 use Rattle.report.specs.Pair.{refusedLine, shiftEnd, tileLine, tileLines, opening, closing, pairLines}
 use Rattle.report.specs.Buffers.{reportBytes}
 use Rattle.report.specs.Written.{Written, Laid}
-use Rattle.report.proofs.Tiles.{length-tilesIn}
+use Rattle.tiling.proofs.Tiles.{length-tilesIn}
 
 -- What is appended at position 0 stands at the start.
 written : (most : ℕ) (bytes : List ℕ) (r : ℕ) (b b' : List ℕ) → most ≤ reportBytes → Appended most bytes 0 b r b' → Written bytes b r b'

@@ -1,48 +1,18 @@
--- The tiles of a tile buffer, one after another, and the loop that writes their lines.
+-- The loop that writes the lines of the tiles of a tile buffer, one after another.
 -- Assumes nothing.
-use Prim.Native.Nat.{ℕ, zero, suc, _+_, _*_, _≤_, _<_}
-use native.Mathlib.Nat.{not-suc-le-zero, le-of-suc-le-suc}
+use Prim.Native.Nat.{ℕ, _+_, _*_, _≤_, _<_}
 use native.Mathlib.Omega.{arith}
 use mathlib.Core.Path.{_≡_, refl, _∙_, ap}
 use mathlib.Core.List.{List, [], _∷_, _++_, append-assoc, append-nil}
-use lib.ListN.{length, getD, drop}
-use lib.Seq.{getD-drop}
-use Rattle.tiling.specs.Each.{Each, also}
+use lib.ListN.{length, getD}
+use Rattle.tiling.specs.Each.{Each}
 use Rattle.tiling.specs.Listing.{Entry}
 use Rattle.tiling.specs.Demand.{tilesIn}
+use Rattle.tiling.proofs.Tiles.{tileAt, tilesIn-more, tile-at}
 use Rattle.lines.specs.Appended.{Appended}
 use Rattle.lines.proofs.Appended.{both, nothing}
 use Rattle.report.specs.Pair.{tileLine, tileLines}
 use Rattle.report.specs.Written.{Starts}
-
-pub length-tilesIn : (n : ℕ) (tiles : List ℕ) → length (tilesIn n tiles) ≡ n
-unfolding tilesIn
-length-tilesIn zero tiles = refl
-length-tilesIn (suc n) tiles = ap suc (length-tilesIn n (drop 3 tiles))
-
--- The tile of number i.
-abbrev pub tileAt : List ℕ → ℕ → Entry
-tileAt tiles i = record { first = getD tiles (3 * i) 0; second = getD tiles (3 * i + 1) 0; len = getD tiles (3 * i + 2) 0 }
-
-tileAt-drop : (tiles : List ℕ) (i : ℕ) → tileAt (drop 3 tiles) i ≡ tileAt tiles (suc i)
-tileAt-drop tiles i =
-    let n : 3 + 3 * i ≡ 3 * suc i = omega arith in
-    let n1 : 3 + (3 * i + 1) ≡ 3 * suc i + 1 = omega arith in
-    let n2 : 3 + (3 * i + 2) ≡ 3 * suc i + 2 = omega arith in
-    rw (getD-drop 3 tiles (3 * i) 0, getD-drop 3 tiles (3 * i + 1) 0, getD-drop 3 tiles (3 * i + 2) 0, n, n1, n2) refl
-
-pub tilesIn-more : (i : ℕ) (tiles : List ℕ) → tilesIn (i + 1) tiles ≡ tilesIn i tiles ++ (tileAt tiles i ∷ [])
-unfolding tilesIn
-tilesIn-more zero tiles = refl
-tilesIn-more (suc i) tiles =
-    let n : suc i + 1 ≡ suc (i + 1) = omega arith in
-    rw (n, tilesIn-more i (drop 3 tiles), tileAt-drop tiles i) refl
-
-pub start-at : (n i : ℕ) (tiles : List ℕ) → Each Starts (tilesIn n tiles) → i < n → Starts (tileAt tiles i)
-unfolding tilesIn
-start-at zero i tiles all h = absurd (not-suc-le-zero h)
-start-at (suc n) zero tiles (also s all) h = s
-start-at (suc n) (suc i) tiles (also s all) h = rw (← tileAt-drop tiles i) (start-at n i (drop 3 tiles) all (le-of-suc-le-suc h))
 
 tileLines-append : (ds es : List Entry) → tileLines (ds ++ es) ≡ tileLines ds ++ tileLines es
 unfolding tileLines
@@ -77,10 +47,10 @@ module _ (tiles : List ℕ) (count at : ℕ) (b₀ : List ℕ) (end : ℕ) (b : 
   line-room h = omega (arith, r .next, r .room, r .same)
 
   pub first-start : i < count → getD tiles (3 * i) 0 < 2048
-  first-start h = start-at count i tiles (r .starts) h .first
+  first-start h = tile-at {Q = Starts} count i tiles (r .starts) h .first
 
   pub second-start : i < count → getD tiles (3 * i + 1) 0 < 2048
-  second-start h = start-at count i tiles (r .starts) h .second
+  second-start h = tile-at {Q = Starts} count i tiles (r .starts) h .second
 
   pub printed-more : i < count → (end' : ℕ) (b' : List ℕ) → Appended 45 (tileLine (tileAt tiles i)) end b end' b' → length b' ≡ length b → Printed tiles count at b₀ end' b' (i + 1)
   unfolding tileLines

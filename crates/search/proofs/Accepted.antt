@@ -1,11 +1,13 @@
--- What an accepted comparison of the fast engine is known to have: its sequences can be compared, and there is room, and its settings are in range.
+-- What a comparison of the fast engine has where no cause of a refusal holds: it can be opened, its passes begun and, once every tile is
+-- laid, answered.
 -- Assumes nothing.
 use Prim.Native.Nat.{ℕ, _+_, _≤_}
 use native.Mathlib.Omega.{arith}
-use mathlib.Core.Path.{_≡_, sym, _∙_, ap}
+use mathlib.Core.Path.{_≡_, refl, sym, _∙_, ap}
 use mathlib.Core.List.{List}
 use lib.ListN.{length}
 use Rattle.tiling.specs.Comparing.{fastRefusal, Comparable, InRange, Roomy}
+use Rattle.tiling.specs.Answer.{Compares}
 use Rattle.tiling.specs.declared.Compared.{Compared}
 use Rattle.tiling.proofs.Comparing.{comparable, fast-roomy, fast-in-range}
 use Rattle.sweep.specs.Progress.{Fits, Finished}
@@ -15,35 +17,35 @@ use Rattle.ends.specs.Ends.{Opened, noTiles, Closed}
 use Rattle.ends.proofs.Opening.{open-room, opened-fits}
 use Rattle.ends.proofs.Closing.{compare-accepted}
 use Rattle.index.specs.Indexed.{Ranges}
-use Rattle.search.specs.Promise.{Fast}
 
-module _ (first second : List ℕ) (minimum buckets start : ℕ) (ws b : List ℕ) (r : ℕ) (e : r ≡ fastRefusal first second minimum buckets start (length ws) (length b)) (z : r ≡ 0) where
-  sequences-known : Comparable first second minimum
-  sequences-known = comparable first second minimum _ (sym e ∙ z)
-
-  room-known : Roomy (length first) (length second) minimum (length ws) (length b)
-  room-known = fast-roomy first second minimum (length ws) (length b) buckets start (sym e ∙ z)
-
-  -- So the comparison can be opened, its passes begun and, once every tile is laid, answered.
+module _ (first second : List ℕ) (minimum : ℕ) (ws b : List ℕ) (can : Comparable first second minimum) (room : Roomy (length first) (length second) minimum (length ws) (length b)) where
   pub fast-room : length first + length second ≤ length ws
-  fast-room = open-room first second minimum ws b sequences-known room-known
+  fast-room = open-room first second minimum ws b can room
 
   pub fast-fits : (j : Job) (ws₁ : List ℕ) → Opened first second minimum ws j ws₁ → length ws₁ ≡ length ws → Fits j ws₁ b noTiles
-  fast-fits = opened-fits first second minimum ws b sequences-known room-known
+  fast-fits = opened-fits first second minimum ws b can room
 
-  settings-known : InRange minimum buckets start
-  settings-known = fast-in-range first second minimum (length ws) (length b) buckets start (sym e ∙ z)
-
-  pub fast-ranges : (j : Job) (ws₁ : List ℕ) → Opened first second minimum ws j ws₁ → (multiplier : ℕ) → Ranges (record { job = j; s = start; multiplier = multiplier; buckets = buckets })
-  fast-ranges j ws₁ o multiplier =
+  pub fast-ranges : (buckets start : ℕ) → InRange minimum buckets start → (j : Job) (ws₁ : List ℕ) → Opened first second minimum ws j ws₁ → (multiplier : ℕ) → Ranges (record { job = j; s = start; multiplier = multiplier; buckets = buckets })
+  fast-ranges buckets start set j ws₁ o multiplier =
       let least : j .minimum ≡ minimum = ap (λ x. x .minimum) (o .job) in
       record {
-        some-bucket = settings-known .some-bucket;
-        few-buckets = settings-known .few-buckets;
-        one = omega (arith, sequences-known .least, settings-known .start-least);
-        most = settings-known .start-most;
-        enough = omega (arith, least, settings-known .start-least);
+        some-bucket = set .some-bucket;
+        few-buckets = set .few-buckets;
+        one = omega (arith, can .least, set .start-least);
+        most = set .start-most;
+        enough = omega (arith, least, set .start-least);
       }
 
-  pub fast-answers : (j : Job) (ws₁ : List ℕ) → Opened first second minimum ws j ws₁ → (ws₂ b' : List ℕ) (k : Totals) → Finished j (j .minimum) ws₁ b noTiles ws₂ b' k → length ws₁ ≡ length ws → length ws₂ ≡ length ws₁ → (a : Compared) (ws₃ : List ℕ) → Closed j k ws₂ a ws₃ → Fast first second minimum buckets start ws b a ws₃ b'
-  fast-answers = compare-accepted first second minimum ws b r (fastRefusal first second minimum buckets start (length ws) (length b)) e z sequences-known room-known
+  pub fast-answers : (j : Job) (ws₁ : List ℕ) → Opened first second minimum ws j ws₁ → (ws₂ b' : List ℕ) (k : Totals) → Finished j (j .minimum) ws₁ b noTiles ws₂ b' k → length ws₁ ≡ length ws → length ws₂ ≡ length ws₁ → (a : Compared) (ws₃ : List ℕ) → Closed j k ws₂ a ws₃ → Compares 0 first second minimum ws b a ws₃ b'
+  fast-answers = compare-accepted first second minimum ws b 0 0 refl refl can room
+
+-- Where the number of the refusal is 0, no cause holds.
+module _ (first second : List ℕ) (minimum buckets start workspace tiles r : ℕ) (e : r ≡ fastRefusal first second minimum buckets start workspace tiles) (z : r ≡ 0) where
+  pub known-comparable : Comparable first second minimum
+  known-comparable = comparable first second minimum _ (sym e ∙ z)
+
+  pub known-in-range : InRange minimum buckets start
+  known-in-range = fast-in-range first second minimum workspace tiles buckets start 0 (sym e ∙ z)
+
+  pub known-roomy : Roomy (length first) (length second) minimum workspace tiles
+  known-roomy = fast-roomy first second minimum workspace tiles buckets start 0 (sym e ∙ z)

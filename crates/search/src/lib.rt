@@ -3,7 +3,9 @@ use index::Pass;
 use sweep::Totals;
 use tiling::Compared;
 ghost use mathlib.Core.Path.{_≡_};
-ghost use Rattle.tiling.specs.Comparing.{fastRefusal};
+ghost use lib.ListN.{length};
+ghost use Rattle.tiling.specs.Comparing.{fastRefusal, Comparable, InRange, Roomy};
+ghost use Rattle.tiling.specs.Answer.{Compares};
 ghost use Rattle.search.specs.Promise.{Fast};
 
 // How the search is set: the multiplier of its hashes, which may be any, its bucket count, and its first search length.
@@ -14,7 +16,7 @@ pub struct Settings {
 }
 
 // Why a comparison is refused; 0 where it is not.
-fn fast_refusal(
+pub fn fast_refusal(
     first: &[u32],
     second: &[u32],
     minimum: u32,
@@ -39,6 +41,35 @@ fn fast_refusal(
         workspace,
         tiles,
     )
+}
+
+// Compares two sequences for which no cause of a refusal holds.
+pub fn compare_accepted(
+    first: &[u32],
+    second: &[u32],
+    minimum: u32,
+    settings: Settings,
+    workspace: &mut [u32],
+    tiles: &mut [u32],
+) -> Compared
+    requires { ⌜ Comparable (now first) (now second) minimum ⌝ }
+    requires { ⌜ InRange minimum (settings .buckets) (settings .start) ⌝ }
+    requires { ⌜ Roomy (length (now first)) (length (now second)) minimum (length (now workspace)) (length (now tiles)) ⌝ }
+    ensures { λ r. ⌜ Compares 0 (now (first .entry)) (now (second .entry)) minimum (now (workspace .entry)) (now (tiles .entry)) r (now (workspace .exit)) (now (tiles .exit)) ⌝ }
+{
+    let none = Totals {
+        count: 0,
+        covered: 0,
+    };
+    let job = ends::open(first, second, minimum as usize, workspace);
+    let pass = Pass {
+        job,
+        s: settings.start as usize,
+        multiplier: settings.multiplier,
+        buckets: settings.buckets,
+    };
+    let sum = passes::tile_all(workspace, pass, tiles, none);
+    ends::close(workspace, job, sum)
 }
 
 // Compares two sequences by greedy string tiling with a minimum length of tiles, by a search that is set as given. The answer,
@@ -67,17 +98,5 @@ pub fn compare(
     if refusal != 0 {
         return ends::refused(refusal);
     }
-    let none = Totals {
-        count: 0,
-        covered: 0,
-    };
-    let job = ends::open(first, second, minimum as usize, workspace);
-    let pass = Pass {
-        job,
-        s: settings.start as usize,
-        multiplier: settings.multiplier,
-        buckets: settings.buckets,
-    };
-    let sum = passes::tile_all(workspace, pass, tiles, none);
-    ends::close(workspace, job, sum)
+    compare_accepted(first, second, minimum, settings, workspace, tiles)
 }

@@ -24,7 +24,8 @@ use Rattle.tiling.proofs.Marked.{lay-shrinks}
 use Rattle.tiling.proofs.Tiling.{best-lies, zero-no-call, takes-tile}
 use Rattle.tile.specs.Listed.{listed}
 use Rattle.tile.proofs.Measure.{run-most}
-use Rattle.tile.proofs.Tail.{covered-append, length-listed, listed-more}
+use Rattle.tiling.proofs.Demand.{covered-append}
+use Rattle.tile.proofs.Tail.{length-listed, listed-more}
 use Rattle.sweep.specs.Workspace.{Space, state, boundsFrom, bound, laid}
 use Rattle.sweep.specs.Progress.{Onward, Bounded, Sweeping, Searched}
 use Rattle.sweep.specs.declared.Job.{Job}

@@ -2,6 +2,7 @@
 -- entry point gives that has branched on the number.
 -- Assumes nothing.
 use Prim.Native.Nat.{ℕ, zero, suc, _≤_, _<_}
+use native.Mathlib.Decide.{ℕ-discrete}
 use native.Mathlib.Omega.{arith}
 use mathlib.Core.Path.{_≡_, refl, sym, _∙_}
 use mathlib.Core.Bool.{Bool, true, false, not}
@@ -43,6 +44,24 @@ part-end = record { stops = λ d k. absurd (d refl); goes = λ e k. refl }
 pub part-cause : (f : ℕ → ℕ) (t : Bool) (n : ℕ) → 0 < n → Part f → Part (λ k. refuse t n (f k))
 part-cause f true n h p = record { stops = λ d k. refl; goes = λ e k. absurd (omega arith) }
 part-cause f false n h p = p
+
+-- Two parts one after the other are a part.
+pub part-then : (f g : ℕ → ℕ) → Part f → Part g → Part (λ k. f (g k))
+part-then f g p q = go (ℕ-discrete (f 0) 0)
+  where
+    go : Dec (f 0 ≡ 0) → Part (λ k. f (g k))
+    go (yes z) =
+        let same : (k : ℕ) → k ≡ f k = p .goes z in
+        record {
+          stops = λ d k. sym (same (g 0)) ∙ (q .stops (λ e. d (sym (same (g 0)) ∙ e)) k ∙ same (g k));
+          goes = λ e k. q .goes (same (g 0) ∙ e) k ∙ same (g k);
+        }
+    go (no d) =
+        let first : (k : ℕ) → f 0 ≡ f k = p .stops d in
+        record {
+          stops = λ e k. sym (first (g 0)) ∙ first (g k);
+          goes = λ e k. absurd (d (first (g 0) ∙ e));
+        }
 
 -- What the code of a part answered, carried to the whole chain.
 pub part-stops : (f : ℕ → ℕ) → Part f → (r k : ℕ) → r ≡ f 0 → (r ≡ 0 → ⊥) → r ≡ f k

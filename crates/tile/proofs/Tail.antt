@@ -10,7 +10,7 @@ use lib.ListN.{length, take, drop, set, length-append, length-take, length-drop,
 use lib.Seq.{take-all, take-at, drop-at, drop-drop}
 use Rattle.buffer.specs.Buffer.{onto}
 use Rattle.buffer.proofs.Buffer.{length-onto}
-use Rattle.tiling.specs.Listing.{Entry, tileWords, covered}
+use Rattle.tiling.specs.Listing.{Entry, tileWords}
 use Rattle.tile.specs.Listed.{listed}
 
 -- Three words stored one by one.
@@ -75,9 +75,3 @@ length-listed count b x h =
     let o : length (onto w (drop (3 * count) b)) ≡ length (drop (3 * count) b) =
     length-onto w (drop (3 * count) b) (omega (arith, d, length-tileWords (x ∷ []))) in
     omega (arith, length-append (take (3 * count) b) (onto w (drop (3 * count) b)), o, d, length-take (3 * count) b)
-
--- What is covered, with more tiles.
-pub covered-append : (es fs : List Entry) → covered (es ++ fs) ≡ covered es + covered fs
-unfolding covered
-covered-append [] fs = omega arith
-covered-append (e ∷ es) fs = omega (arith, covered-append es fs)

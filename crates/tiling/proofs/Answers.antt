@@ -1,30 +1,21 @@
 -- Demand 3 of what a comparison answers and leaves in the tile buffer, whichever engine made it: the tiles read back from the buffer are the
 -- listing, and none after a refusal, so all that holds of the listing holds of them.
 -- Assumes nothing.
-use Prim.Native.Nat.{ℕ, zero, suc, _+_, _≤_, _^_}
+use Prim.Native.Nat.{ℕ, zero, suc, _+_, _≤_}
 use native.Mathlib.Omega.{arith}
 use mathlib.Core.Path.{_≡_, refl, sym, _∙_, ap}
-use mathlib.Core.List.{List, [], _∷_, _++_, map}
-use lib.ListN.{length, drop, replicate}
+use mathlib.Core.List.{List, [], map}
+use lib.ListN.{length, replicate}
 use Rattle.symbol.specs.Refusal.{outcome}
-use Rattle.buffer.specs.Buffer.{onto}
-use Rattle.tiling.specs.Each.{Each}
 use Rattle.tiling.specs.Greedy.{Begins}
-use Rattle.tiling.specs.Listing.{Entry, listing, tileWords, covered, score}
+use Rattle.tiling.specs.Listing.{Entry, listing, covered}
+use Rattle.tiling.specs.Comparing.{Comparable}
 use Rattle.tiling.specs.declared.Compared.{Compared}
 use Rattle.tiling.specs.Answer.{compared, tileBuffer, Compares}
-use Rattle.tiling.specs.Demand.{FreeRun, long, Shifted, smallerCounts, exchanged, tilesIn, tilesOf, Tiled, Exchanges}
+use Rattle.tiling.specs.Demand.{long, exchanged, tilesIn, tilesOf, Tiled, Demands, Exchanges}
 use Rattle.tiling.proofs.Demand.{listing-tiled, listing-begins, exchange, exchange-count, exchange-covered, exchange-score}
 use Rattle.tiling.proofs.Shift.{tiled-shift}
-
--- Tiles written to the start of a buffer are read back.
-tiles-back : (es : List Entry) (rest : List ℕ) → tilesIn (length es) (tileWords es ++ rest) ≡ es
-unfolding tilesIn tileWords
-tiles-back [] rest = refl
-tiles-back (e ∷ es) rest = ap (λ xs. e ∷ xs) (tiles-back es rest)
-
-pub tiles-read : (es : List Entry) (b : List ℕ) → tilesIn (length es) (onto (tileWords es) b) ≡ es
-tiles-read es b = tiles-back es (drop (length (tileWords es)) b)
+use Rattle.tiling.proofs.Tiles.{tiles-read}
 
 -- ---- a comparison, accepted or refused
 listed-of : (r : ℕ) (tiles : List Entry) (total : ℕ) (b : List ℕ) → tilesOf (compared r tiles total) (tileBuffer r tiles b) ≡ outcome r tiles []
@@ -48,38 +39,28 @@ module _ {r : ℕ} {first second : List ℕ} {minimum : ℕ} {ws b : List ℕ} {
   pub answers-listed : tilesOf a b' ≡ listing first second minimum
   answers-listed = rw answers-number at (listed c)
 
-  -- The three answers are those of the tiles in the buffer, and the workspace is zero.
-  pub answers-tiles : a .tiles ≡ length (tilesOf a b')
-  answers-tiles = rw answers-listed (ap (λ x. x .tiles) answer-is)
+  pub answers-covered : a .covered ≡ covered (listing first second minimum)
+  answers-covered = ap (λ x. x .covered) answer-is
 
-  pub answers-covered : a .covered ≡ covered (tilesOf a b')
-  answers-covered = rw answers-listed (ap (λ x. x .covered) answer-is)
-
-  pub answers-score : a .score ≡ score (a .covered) (length first + length second)
-  answers-score = rw answer-is refl
-
+  -- The workspace is zero, and where the sequences can be compared the answer and the tiles are as demanded.
   pub answers-zero : ws' ≡ replicate (length ws) 0
   answers-zero = rw answers-number at (c .workspace)
 
-  pub answers-tiled : 1 ≤ minimum → Tiled first second minimum (tilesOf a b')
-  answers-tiled one = rw answers-listed (listing-tiled first second minimum one)
-
-  pub answers-no-free-run : 1 ≤ minimum → (i j : ℕ) → FreeRun first second (tilesOf a b') minimum i j → ⊥
-  answers-no-free-run one = answers-tiled one .no-free-run
-
-  pub answers-at-one : minimum ≡ 1 → a .covered ≡ smallerCounts (2 ^ 16) first second
-  answers-at-one e = answers-covered ∙ answers-tiled (omega (arith, e)) .at-one e
-
-  -- Covered is at most each length.
-  pub answers-within-first : 1 ≤ minimum → a .covered ≤ length first
-  answers-within-first one = omega (arith, answers-covered, answers-tiled one .within-first)
-
-  pub answers-within-second : 1 ≤ minimum → a .covered ≤ length second
-  answers-within-second one = omega (arith, answers-covered, answers-tiled one .within-second)
-
-  -- Each tile's shift lies between -2,047 and 2,047.
-  pub answers-shift : length first ≤ 2048 → length second ≤ 2048 → 1 ≤ minimum → Each Shifted (tilesOf a b')
-  answers-shift f s one = tiled-shift f s one (answers-tiled one)
+  pub answers-demands : Comparable first second minimum → Demands first second minimum a b'
+  answers-demands k =
+      let one = k .least in
+      let tiled : Tiled first second minimum (tilesOf a b') = rw answers-listed (listing-tiled first second minimum one) in
+      let covered-listed : a .covered ≡ covered (tilesOf a b') = rw answers-listed answers-covered in
+      record {
+        tiled = tiled;
+        shifted = tiled-shift (k .first-short) (k .second-short) one tiled;
+        tiles = rw answers-listed (ap (λ x. x .tiles) answer-is);
+        covered = covered-listed;
+        score = rw answer-is refl;
+        at-one = λ e. covered-listed ∙ tiled .at-one e;
+        within-first = omega (arith, covered-listed, tiled .within-first);
+        within-second = omega (arith, covered-listed, tiled .within-second);
+      }
 
 -- ---- two comparisons with the sequences exchanged
 exchanged-outcome : (r : ℕ) (tiles : List Entry) → outcome r (map exchanged tiles) [] ≡ map exchanged (outcome r tiles [])

@@ -12,8 +12,8 @@ use lib.Dec.{eqb, ltb}
 use lib.ListN.{length}
 use Rattle.symbol.specs.Sequence.{allSound, tooLong}
 use Rattle.symbol.specs.Refusal.{refuse}
-use Rattle.symbol.proofs.Refusal.{refuse-swap, clear, Part, part-end, part-cause, part-stops, part-goes}
-use Rattle.tiling.specs.Comparing.{sequences, minimums, settings, room, plainRefusal, fastRefusal, Comparable, InRange, Roomy}
+use Rattle.symbol.proofs.Refusal.{refuse-swap, clear, Part, part-end, part-cause, part-then, part-stops, part-goes}
+use Rattle.tiling.specs.Comparing.{sequences, minimums, settings, room, plainRefusal, fastChecks, Comparable, InRange, Roomy}
 
 -- ---- no cause holds
 record SequencesClear (first second : List ℕ) (later : ℕ) : Type 0 where
@@ -73,13 +73,21 @@ settings-clear minimum buckets start later e =
       rest = d .rest;
     }
 
-room-clear : (n m minimum workspace tiles : ℕ) → room n m minimum workspace tiles 0 ≡ 0 → Roomy n m minimum workspace tiles
-room-clear n m minimum workspace tiles e =
-    let a = clear (ltb workspace (4 * (n + m))) 6 (refuse (ltb tiles (3 * (min n m / minimum))) 7 0) (omega arith) e in
-    let b = clear (ltb tiles (3 * (min n m / minimum))) 7 0 (omega arith) (a .rest) in
+record RoomClear (n m minimum workspace tiles later : ℕ) : Type 0 where
+  pub roomy : Roomy n m minimum workspace tiles
+  pub rest : later ≡ 0
+
+room-clear : (n m minimum workspace tiles later : ℕ) → room n m minimum workspace tiles later ≡ 0 → RoomClear n m minimum workspace tiles later
+room-clear n m minimum workspace tiles later e =
+    let a = clear (ltb workspace (4 * (n + m))) 6 (refuse (ltb tiles (3 * (min n m / minimum))) 7 later) (omega arith) e in
+    let b = clear (ltb tiles (3 * (min n m / minimum))) 7 later (omega arith) (a .rest) in
     record {
-      work-room = ltb-false workspace (4 * (n + m)) (a .first);
-      tile-room = ltb-false tiles (3 * (min n m / minimum)) (b .first);
+      roomy =
+          record {
+            work-room = ltb-false workspace (4 * (n + m)) (a .first);
+            tile-room = ltb-false tiles (3 * (min n m / minimum)) (b .first);
+          };
+      rest = b .rest;
     }
 
 -- What either engine accepts can be compared, whatever it checks later.
@@ -107,20 +115,26 @@ comparable-clear first second minimum later e =
 pub comparable : (first second : List ℕ) (minimum later : ℕ) → sequences first second (minimums minimum later) ≡ 0 → Comparable first second minimum
 comparable first second minimum later e = comparable-clear first second minimum later e .comparable
 
--- And there is room and, by the search, its settings are in range.
+-- And there is room and, by the search, its settings are in range, whatever a service checks later.
 module _ (first second : List ℕ) (minimum workspace tiles : ℕ) where
   pub plain-roomy : plainRefusal first second minimum workspace tiles ≡ 0 → Roomy (length first) (length second) minimum workspace tiles
-  plain-roomy e = room-clear (length first) (length second) minimum workspace tiles (comparable-clear first second minimum _ e .rest)
+  plain-roomy e = room-clear (length first) (length second) minimum workspace tiles 0 (comparable-clear first second minimum _ e .rest) .roomy
 
-  module _ (buckets start : ℕ) (e : fastRefusal first second minimum buckets start workspace tiles ≡ 0) where
-    settings-are : SettingsClear minimum buckets start (room (length first) (length second) minimum workspace tiles 0)
+  module _ (buckets start later : ℕ) (e : fastChecks first second minimum buckets start workspace tiles later ≡ 0) where
+    settings-are : SettingsClear minimum buckets start (room (length first) (length second) minimum workspace tiles later)
     settings-are = settings-clear minimum buckets start _ (comparable-clear first second minimum _ e .rest)
+
+    room-is : RoomClear (length first) (length second) minimum workspace tiles later
+    room-is = room-clear (length first) (length second) minimum workspace tiles later (settings-are .rest)
 
     pub fast-in-range : InRange minimum buckets start
     fast-in-range = settings-are .in-range
 
     pub fast-roomy : Roomy (length first) (length second) minimum workspace tiles
-    fast-roomy = room-clear (length first) (length second) minimum workspace tiles (settings-are .rest)
+    fast-roomy = room-is .roomy
+
+    pub fast-rest : later ≡ 0
+    fast-rest = room-is .rest
 
 -- ---- a part of which no cause holds leaves the number to what is checked later
 pub comparable-passes : (first second : List ℕ) (minimum later : ℕ) → Comparable first second minimum → sequences first second (minimums minimum later) ≡ later
@@ -150,10 +164,10 @@ module _ (first second : List ℕ) (minimum workspace tiles : ℕ) (c : Comparab
   pub plain-accepts : plainRefusal first second minimum workspace tiles ≡ 0
   plain-accepts = comparable-passes first second minimum _ c ∙ roomy-passes (length first) (length second) minimum workspace tiles 0 r
 
-  pub fast-accepts : (buckets start : ℕ) → InRange minimum buckets start → fastRefusal first second minimum buckets start workspace tiles ≡ 0
-  fast-accepts buckets start i =
+  pub fast-passes : (buckets start later : ℕ) → InRange minimum buckets start → fastChecks first second minimum buckets start workspace tiles later ≡ later
+  fast-passes buckets start later i =
       comparable-passes first second minimum _ c
-      ∙ (in-range-passes minimum buckets start _ i ∙ roomy-passes (length first) (length second) minimum workspace tiles 0 r)
+      ∙ (in-range-passes minimum buckets start _ i ∙ roomy-passes (length first) (length second) minimum workspace tiles later r)
 
 -- ---- exchanging the sequences
 pub comparable-exchange : {first second : List ℕ} {minimum : ℕ} → Comparable first second minimum → Comparable second first minimum
@@ -184,10 +198,10 @@ plain-refusal-exchange first second minimum workspace tiles =
     sequences-exchange first second _
     ∙ ap (λ k. sequences second first (minimums minimum k)) (room-exchange (length first) (length second) minimum workspace tiles 0)
 
-pub fast-refusal-exchange : (first second : List ℕ) (minimum buckets start workspace tiles : ℕ) → fastRefusal first second minimum buckets start workspace tiles ≡ fastRefusal second first minimum buckets start workspace tiles
-fast-refusal-exchange first second minimum buckets start workspace tiles =
+pub fast-checks-exchange : (first second : List ℕ) (minimum buckets start workspace tiles later : ℕ) → fastChecks first second minimum buckets start workspace tiles later ≡ fastChecks second first minimum buckets start workspace tiles later
+fast-checks-exchange first second minimum buckets start workspace tiles later =
     sequences-exchange first second _
-    ∙ ap (λ k. sequences second first (minimums minimum (settings minimum buckets start k))) (room-exchange (length first) (length second) minimum workspace tiles 0)
+    ∙ ap (λ k. sequences second first (minimums minimum (settings minimum buckets start k))) (room-exchange (length first) (length second) minimum workspace tiles later)
 
 -- ---- the parts of the chain
 sequences-part : (first second : List ℕ) → Part (sequences first second)
@@ -196,19 +210,30 @@ sequences-part first second =
     (part-cause _ (tooLong second) 1 (omega arith)
     (part-cause _ (not (allSound first)) 2 (omega arith) (part-cause _ (not (allSound second)) 2 (omega arith) part-end)))
 
+minimums-part : (minimum : ℕ) → Part (minimums minimum)
+minimums-part minimum = part-cause _ (eqb minimum 0) 3 (omega arith) (part-cause _ (ltb 256 minimum) 3 (omega arith) part-end)
+
 comparable-part : (first second : List ℕ) (minimum : ℕ) → Part (λ k. sequences first second (minimums minimum k))
-comparable-part first second minimum =
-    part-cause _ (tooLong first) 1 (omega arith)
-    (part-cause _ (tooLong second) 1 (omega arith)
-    (part-cause _ (not (allSound first)) 2 (omega arith)
-    (part-cause _ (not (allSound second)) 2 (omega arith)
-    (part-cause _ (eqb minimum 0) 3 (omega arith) (part-cause _ (ltb 256 minimum) 3 (omega arith) part-end)))))
+comparable-part first second minimum = part-then (sequences first second) (minimums minimum) (sequences-part first second) (minimums-part minimum)
 
 settings-part : (minimum buckets start : ℕ) → Part (settings minimum buckets start)
 settings-part minimum buckets start =
     part-cause _ (eqb buckets 0) 4 (omega arith)
     (part-cause _ (ltb 1024 buckets) 4 (omega arith)
     (part-cause _ (ltb start minimum) 5 (omega arith) (part-cause _ (ltb 2048 start) 5 (omega arith) part-end)))
+
+room-part : (n m minimum workspace tiles : ℕ) → Part (room n m minimum workspace tiles)
+room-part n m minimum workspace tiles =
+    part-cause _ (ltb workspace (4 * (n + m))) 6 (omega arith)
+    (part-cause _ (ltb tiles (3 * (min n m / minimum))) 7 (omega arith) part-end)
+
+-- All that the search checks is a part of what a service checks.
+pub fast-part : (first second : List ℕ) (minimum buckets start workspace tiles : ℕ) → Part (fastChecks first second minimum buckets start workspace tiles)
+fast-part first second minimum buckets start workspace tiles =
+    part-then (λ k. sequences first second (minimums minimum k)) (λ k. settings minimum buckets start (room (length first) (length second) minimum workspace tiles k))
+    (comparable-part first second minimum)
+    (part-then (settings minimum buckets start) (room (length first) (length second) minimum workspace tiles)
+    (settings-part minimum buckets start) (room-part (length first) (length second) minimum workspace tiles))
 
 -- What the code of the parts answered. A cause of the sequences stops the chain, and then the minimum decides.
 module _ (first second : List ℕ) (minimum q : ℕ) (of-sequences : q ≡ sequences first second 0) where

@@ -2,13 +2,13 @@
 -- of the sequences keeps them, so they hold whichever sequence is the pattern. Where the lengths differ the pattern is the same
 -- sequence either way, so exchanging the sequences only turns the sides.
 -- Assumes nothing.
-use Prim.Native.Nat.{ℕ, _+_, _*_, _/_, _≤_, _<_, _^_, min}
-use native.Mathlib.Nat.{add-comm, suc-mul, le-div-iff-mul-le}
+use Prim.Native.Nat.{ℕ, zero, suc, _+_, _*_, _/_, _≤_, _<_, _^_, min}
+use native.Mathlib.Nat.{add-comm, mul-comm, suc-mul, mul-div-le, le-div-iff-mul-le}
 use native.Mathlib.Decide.{decLt}
 use native.Mathlib.Omega.{arith}
 use mathlib.Core.Path.{_≡_, refl, sym, _∙_, ap}
 use mathlib.Core.Bool.{Bool, true, false}
-use mathlib.Core.List.{List, [], _∷_, map, map-map, map-append}
+use mathlib.Core.List.{List, [], _∷_, _++_, map, map-map, map-append}
 use borrow.Author.Tests.{le-leb, lt-leb}
 use lib.ListN.{length, drop, length-map}
 use lib.Seq.{getD-drop}
@@ -57,6 +57,12 @@ straight-tiled first second minimum one =
       within-first = covered-pattern minimum one s;
       within-second = covered-text minimum one s;
     }
+
+-- What is covered, with more tiles.
+pub covered-append : (es fs : List Entry) → covered (es ++ fs) ≡ covered es + covered fs
+unfolding covered
+covered-append [] fs = omega arith
+covered-append (e ∷ es) fs = omega (arith, covered-append es fs)
 
 -- ---- turning the sides
 pub covered-exchanged : (tiles : List Entry) → covered (map exchanged tiles) ≡ covered tiles
@@ -185,6 +191,7 @@ tiles-fit first second minimum one =
 begins-map : (f : Tile → Entry) → ((k : Tile) → f k .len ≡ k .len) → (longer : ℕ) (ks ls : List Tile) → Begins size longer ks ls → Begins long longer (map f ks) (map f ls)
 begins-map f e longer ks ls r =
     record {
+      enough = each-map f (λ k h. rw (e k) h) (r .enough);
       rest = map f (r .rest);
       whole = ap (λ xs. map f xs) (r .whole) ∙ map-append f ks (r .rest);
       short = each-map f (λ k h. rw (e k) h) (r .short);
@@ -197,3 +204,17 @@ listing-begins first second minimum longer one le = go (firstIsPattern first sec
     go : (b : Bool) → Begins long longer (elim b [ true ↦ map straight (tiling longer (start first second)) | false ↦ map crossed (tiling longer (start second first)) ]) (elim b [ true ↦ map straight (tiling minimum (start first second)) | false ↦ map crossed (tiling minimum (start second first)) ])
     go true = begins-map straight (λ k. refl) longer _ _ (tiling-begins minimum longer one le (start first second))
     go false = begins-map crossed (λ k. refl) longer _ _ (tiling-begins minimum longer one le (start second first))
+
+-- So covered never rises, and neither does the score.
+pub covered-falls : (first second : List ℕ) (minimum longer : ℕ) → 1 ≤ minimum → minimum ≤ longer → covered (listing first second longer) ≤ covered (listing first second minimum)
+covered-falls first second minimum longer one le =
+    let r = listing-begins first second minimum longer one le in
+    omega (arith, ap covered (r .whole), covered-append (listing first second longer) (r .rest))
+
+pub score-falls : (c d total : ℕ) → c ≤ d → score c total ≤ score d total
+unfolding score
+score-falls c d zero h = omega arith
+score-falls c d (suc total) h =
+    let n : 2000 * c / suc total * suc total ≤ 2000 * d = omega (arith, mul-div-le (2000 * c) (suc total), mul-comm (2000 * c / suc total) (suc total)) in
+    let some : 0 < suc total = omega arith in
+    le-div-iff-mul-le some .1 n

@@ -54,6 +54,7 @@ tiling-begins minimum longer one le s =
     let l = after lay s (tiling longer s) in
     let h = complete (tiling-greedy longer (omega arith) s) in
     record {
+      enough = tiling-long longer (omega arith) s;
       rest = tiling minimum l;
       whole = tiling-split minimum longer one le s;
       short = each-also (λ k m. omega (arith, m, h)) (bounded best-shrinks {n = longer - 1} (omega (arith, h)) (tiling-greedy minimum one l));

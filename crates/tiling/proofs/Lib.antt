@@ -12,5 +12,6 @@ pub mod Left
 pub mod Codes
 pub mod Demand
 pub mod Shift
+pub mod Tiles
 pub mod Answers
 pub mod Comparing

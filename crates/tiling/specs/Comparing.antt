@@ -40,10 +40,16 @@ abbrev pub plainRefusal : List ℕ → List ℕ → ℕ → ℕ → ℕ → ℕ
 plainRefusal first second minimum workspace tiles =
     sequences first second (minimums minimum (room (length first) (length second) minimum workspace tiles 0))
 
--- The same with the search's bucket count and first search length. Any multiplier will do.
+-- The same with the search's bucket count and first search length, and what a service that compares checks later. Any multiplier will do.
+abbrev pub fastChecks : List ℕ → List ℕ → ℕ → ℕ → ℕ → ℕ → ℕ → ℕ → ℕ
+fastChecks first second minimum buckets start workspace tiles later =
+    sequences first second
+    (minimums minimum
+    (settings minimum buckets start
+    (room (length first) (length second) minimum workspace tiles later)))
+
 abbrev pub fastRefusal : List ℕ → List ℕ → ℕ → ℕ → ℕ → ℕ → ℕ → ℕ
-fastRefusal first second minimum buckets start workspace tiles =
-    sequences first second (minimums minimum (settings minimum buckets start (room (length first) (length second) minimum workspace tiles 0)))
+fastRefusal first second minimum buckets start workspace tiles = fastChecks first second minimum buckets start workspace tiles 0
 
 -- Where no cause holds, part by part. The causes 1 to 3: two sequences that can be compared at this minimum.
 pub record Comparable (first second : List ℕ) (minimum : ℕ) : Type 0 where

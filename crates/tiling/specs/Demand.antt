@@ -10,7 +10,7 @@ use lib.ListN.{length, getD, drop}
 use Rattle.symbol.specs.Word.{isCall, code, matches}
 use Rattle.tiling.specs.Each.{Each, Pairs}
 use Rattle.tiling.specs.Tally.{tally}
-use Rattle.tiling.specs.Listing.{Entry, covered, shift}
+use Rattle.tiling.specs.Listing.{Entry, covered, score, shift}
 use Rattle.tiling.specs.declared.Compared.{Compared}
 
 -- A tile of this length covers position j of the sequence on which it starts here.
@@ -101,6 +101,19 @@ tilesIn (suc n) buffer = record { first = getD buffer 0 0; second = getD buffer 
 -- The tiles that a comparison lists: "the words of the tile buffer through the last tile".
 abbrev pub tilesOf : Compared → List ℕ → List Entry
 tilesOf a buffer = tilesIn (a .tiles) buffer
+
+-- What holds of the answer of an accepted comparison and of the tiles that it lists, whichever engine made it.
+pub record Demands (first second : List ℕ) (minimum : ℕ) (a : Compared) (buffer : List ℕ) : Type 0 where
+  pub tiled : Tiled first second minimum (tilesOf a buffer)
+  pub shifted : Each Shifted (tilesOf a buffer)
+  -- "the three answers are its number of tiles, covered and score."
+  pub tiles : a .tiles ≡ length (tilesOf a buffer)
+  pub covered : a .covered ≡ covered (tilesOf a buffer)
+  pub score : a .score ≡ score (a .covered) (length first + length second)
+  -- "At minimum 1, covered = the sum, over all codes, of the smaller of its numbers of calls on the two strands."
+  pub at-one : minimum ≡ 1 → a .covered ≡ smallerCounts (2 ^ 16) first second
+  pub within-first : a .covered ≤ length first
+  pub within-second : a .covered ≤ length second
 
 -- Two comparisons of which the second had the sequences exchanged: "only exchanges the sides of each tile: order, lengths, tile count,
 -- covered and score are equal." Where one is accepted, so is the other.

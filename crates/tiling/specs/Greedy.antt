@@ -32,8 +32,10 @@ module _ {S K : Type 0} (lay : S → K → S) where
   after s [] = s
   after s (k ∷ ks) = after (lay s k) ks
 
--- The list ks is the beginning of ls, and what comes after it is shorter than this.
+-- The list ks is the beginning of ls down to the last that has at least this length; what comes after it is shorter. "exactly the first
+-- tiles at a smaller one, down to the last tile long enough" (02, U1).
 pub record Begins {K : Type 0} (size : K → ℕ) (longer : ℕ) (ks ls : List K) : Type 0 where
+  pub enough : Each (λ k. longer ≤ size k) ks
   pub rest : List K
   pub whole : ls ≡ ks ++ rest
   pub short : Each (λ k. size k < longer) rest
