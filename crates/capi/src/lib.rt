@@ -13,6 +13,7 @@ ghost use Rattle.record.specs.Writing.{writeAnswer, writeBuffer};
 ghost use Rattle.window.specs.HashList.{hashAnswer, hashBuffer};
 ghost use Rattle.plain.specs.Promise.{Plain};
 ghost use Rattle.search.specs.Promise.{Fast};
+ghost use Rattle.cover.specs.Promise.{EveryMinimum};
 
 // Whether two words match: both are calls with equal codes.
 #[no_mangle]
@@ -97,4 +98,27 @@ pub extern "C" fn sigxume_compare_fast(
         start,
     };
     search::compare(first, second, minimum, settings, workspace, tiles)
+}
+
+// What two sequences cover at every minimum: compares them at minimum 1 by Running Karp-Rabin, and fills entry k of cover, from 0
+// to 255, with what the tiles at minimum k + 1 cover. Refused: 1, 2, 4 to 7, 11.
+#[no_mangle]
+pub extern "C" fn sigxume_cover_fast(
+    first: &[u32],
+    second: &[u32],
+    multiplier: u32,
+    buckets: u32,
+    start: u32,
+    workspace: &mut [u32],
+    tiles: &mut [u32],
+    cover: &mut [u32],
+) -> Compared
+    ensures { λ r. ⌜ EveryMinimum (now (first .entry)) (now (second .entry)) buckets start (now (workspace .entry)) (now (tiles .entry)) (now (cover .entry)) r (now (workspace .exit)) (now (tiles .exit)) (now (cover .exit)) ⌝ }
+{
+    let settings = Settings {
+        multiplier,
+        buckets,
+        start,
+    };
+    cover::every_minimum(first, second, settings, workspace, tiles, cover)
 }

@@ -1,2 +1,3 @@
 pub mod Engine
 pub mod Equal
+pub mod Cover

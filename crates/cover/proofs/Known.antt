@@ -1,0 +1,16 @@
+-- Every case of the known list comes out as written: the checker computes the test.
+-- Assumes nothing.
+use mathlib.Core.Bool.{true}
+use mathlib.Core.Path.{_≡_, refl}
+use Rattle.symbol.specs.Word.{kind, low, code, isCall, matches}
+use Rattle.buffer.specs.Buffer.{tabulate}
+use Rattle.tiling.specs.Run.{run, mark}
+use Rattle.tiling.specs.Greedy.{peak, greedy}
+use Rattle.tiling.specs.Tiling.{bestText, rowLength, best, lay, tiling}
+use Rattle.tiling.specs.Listing.{firstIsPattern, listing, covered}
+use Rattle.tiling.specs.Known.{same, shorter, longer}
+use Rattle.cover.specs.Known.{holds, all-hold, cases}
+
+pub known : all-hold cases ≡ true
+unfolding tabulate kind low code isCall matches run mark peak greedy bestText rowLength best lay tiling firstIsPattern listing covered same shorter longer holds all-hold cases
+known = refl

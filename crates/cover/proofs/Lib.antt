@@ -1,0 +1,5 @@
+pub mod Known
+pub mod Walking
+pub mod Entries
+pub mod Refusal
+pub mod Accepted
