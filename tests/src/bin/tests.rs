@@ -17,7 +17,7 @@ use std::thread;
 type Row = (&'static str, u64, fn(&mut Group));
 
 #[rustfmt::skip]
-const GROUPS: [Row; 86] = [
+const GROUPS: [Row; 88] = [
     ("reference: known pairs", 1, known::pairs),
     ("reference: known windows", 2, known::windows),
     ("reference: worked example", 3, known::example),
@@ -76,6 +76,8 @@ const GROUPS: [Row; 86] = [
     ("library: records in a row", 78, library::rows),
     ("library: comparisons", 79, library::comparisons),
     ("library: one comparer", 80, library::comparer),
+    ("library: cover", 86, library::covers),
+    ("library: scores", 87, library::scores),
     ("library: hashes", 81, library::hashes),
     ("stack: engines", 83, stack::engines),
     ("stack: other functions", 84, stack::others),
