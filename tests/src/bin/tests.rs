@@ -6,8 +6,8 @@
 use sigxume_tests::comparisons::{self, laws, limits, mistakes, restarts, settings};
 use sigxume_tests::group::Group;
 use sigxume_tests::tool::{
-    bad_lines, bad_records, compare, json, matrix, matrix_bad, matrix_large, options, output, plot,
-    progress, round_trips, usage,
+    self, bad_lines, bad_records, compare, curves, json, matrix, matrix_bad, matrix_large, options,
+    output, plot, progress, round_trips, usage,
 };
 use sigxume_tests::{baselines, documents, hashes, known, library, program, records, stack, words};
 use std::process::ExitCode;
@@ -17,7 +17,7 @@ use std::thread;
 type Row = (&'static str, u64, fn(&mut Group));
 
 #[rustfmt::skip]
-const GROUPS: [Row; 88] = [
+const GROUPS: &[Row] = &[
     ("reference: known pairs", 1, known::pairs),
     ("reference: known windows", 2, known::windows),
     ("reference: worked example", 3, known::example),
@@ -98,6 +98,8 @@ const GROUPS: [Row; 88] = [
     ("tool: compare", 64, compare::compare),
     ("tool: JSON", 65, json::json),
     ("tool: plot", 66, plot::plot),
+    ("tool: cover", 88, tool::cover::cover),
+    ("tool: cover, picture", 89, curves::curves),
     ("tool: matrix", 67, matrix::matrix),
     ("tool: matrix, bad input", 68, matrix_bad::bad_input),
     ("tool: matrix, 64 records", 69, matrix_large::large),
@@ -111,7 +113,7 @@ const GROUPS: [Row; 88] = [
 fn main() -> ExitCode {
     let parts: Vec<String> = std::env::args().skip(1).collect();
     let wanted = |name: &str| parts.is_empty() || parts.iter().any(|part| name.contains(part));
-    let groups: Vec<Row> = GROUPS.into_iter().filter(|row| wanted(row.0)).collect();
+    let groups: Vec<Row> = GROUPS.iter().copied().filter(|row| wanted(row.0)).collect();
     if groups.is_empty() {
         eprintln!("no group's name has {parts:?}");
         return ExitCode::FAILURE;
