@@ -192,6 +192,20 @@ pub struct Tile {
     pub length: usize,
 }
 
+impl Tile {
+    /// The same tile with the sides exchanged.
+    pub fn exchanged(self) -> Self {
+        [self.second, self.first, self.length].into()
+    }
+
+    /// The first so many tiles in a tile buffer.
+    pub fn list(buffer: &[u32], count: u32) -> Vec<Self> {
+        let rows = buffer.chunks_exact(3).take(count as usize);
+        let rows = rows.map(|row| [row[0], row[1], row[2]].map(|word| word as usize));
+        rows.map(Self::from).collect()
+    }
+}
+
 impl From<[usize; 3]> for Tile {
     fn from([first, second, length]: [usize; 3]) -> Self {
         Self {
