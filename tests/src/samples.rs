@@ -136,8 +136,8 @@ pub fn some_room(random: &mut Random, needed: usize, short: bool) -> usize {
     }
 }
 
-/// What buffers may have held before, other than random words: so many words over and over, each
-/// with its name.
+/// What buffers may have held before, other than random words: these words over and over, each list
+/// with its name. None is empty, the pair itself having a no-call after it.
 pub fn fills(pair: &Pair) -> [(&'static str, Vec<u32>); 8] {
     [
         ("zeros", vec![0]),
@@ -147,7 +147,7 @@ pub fn fills(pair: &Pair) -> [(&'static str, Vec<u32>); 8] {
         ("small numbers", vec![0, 1, 2, 3, 5, 8, 13, 21, 34]),
         ("calls", [1, 2, 3].map(call).to_vec()),
         ("no-calls", vec![NO_CALL]),
-        ("the pair", pair.concat()),
+        ("the pair", [&pair.concat()[..], &[NO_CALL]].concat()),
     ]
 }
 
