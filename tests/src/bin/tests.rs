@@ -4,6 +4,7 @@
 //! names: only the groups with one of them are then run.
 
 use sigxume_tests::comparisons::{self, laws, limits, mistakes, restarts, settings};
+use sigxume_tests::cover;
 use sigxume_tests::group::Group;
 use sigxume_tests::tool::{
     self, bad_lines, bad_records, compare, curves, json, matrix, matrix_bad, matrix_large, options,
@@ -69,6 +70,17 @@ const GROUPS: &[Row] = &[
     ("restart: every length", 48, restarts::every_length),
     ("restart: a shorter block first", 49, restarts::shorter_first),
     ("restart: again and again", 50, restarts::in_a_row),
+    ("cover: known pairs", 101, cover::known),
+    ("cover: every small pair", 102, cover::small),
+    ("cover: random pairs", 103, cover::random),
+    ("cover: larger pairs", 104, cover::larger),
+    ("cover: known tiles", 105, cover::known_tiles),
+    ("cover: what buffers held", 106, cover::held),
+    ("cover: laws", 107, cover::laws::laws),
+    ("cover: sizes", 108, cover::limits::sizes),
+    ("cover: settings", 109, cover::limits::settings),
+    ("cover: unsound words", 110, cover::limits::unsound),
+    ("cover: order of refusals", 111, cover::limits::order),
     ("library: refusals", 75, library::refusals),
     ("library: C header", 82, library::header),
     ("library: symbols", 76, library::symbols),
@@ -80,6 +92,7 @@ const GROUPS: &[Row] = &[
     ("library: scores", 87, library::scores),
     ("library: hashes", 81, library::hashes),
     ("stack: engines", 83, stack::engines),
+    ("stack: cover", 112, stack::cover),
     ("stack: other functions", 84, stack::others),
     ("stack: pair program", 85, stack::pair_program),
     ("program: known pairs", 51, program::known),
