@@ -1,11 +1,11 @@
 //! The Rust library over the core: its results, its sizes of buffers, its words for refusals.
 
-use crate::engine::Engine;
+use crate::engine::{any_settings, wrong_starts, Engine, WRONG_BUCKETS};
 use crate::group::Group;
 use crate::pairs::any_pair;
 use crate::process::printed;
 use crate::random::Random;
-use crate::reference::{self, record, tiling, MAX_MINIMUM, MAX_WORDS, ROOM};
+use crate::reference::{self, record, tiling, Curve, MAX_MINIMUM, MAX_WORDS, ROOM};
 use crate::samples::{any_length, call, faulty, ids, sequence, sound_word, unsound_word, NO_CALL};
 use crate::tool::Tool;
 use sigxume::{
@@ -13,6 +13,7 @@ use sigxume::{
     records, score, tile_words, tiles, words_match, words_of_bytes, workspace_words, write,
     Comparer, Cover, Refusal, Settings, Symbol, Tile, COVER_WORDS,
 };
+use std::cell::LazyCell;
 use std::process::Command;
 
 /// The C header, which says some of the same.
@@ -307,35 +308,18 @@ pub fn comparer(g: &mut Group) {
 }
 
 /// What a cover says: tiles, covered and score of the comparison at minimum 1, and the covered count at each.
-type Covered = ([u32; 3], Vec<u32>);
+type Covered = ([u32; 3], [u32; COVER_WORDS]);
 
 fn covered(cover: Cover) -> Covered {
     let answer = cover.comparison;
     let answer = [answer.tiles as u32, answer.covered as u32, answer.score];
-    (answer, cover.covered.to_vec())
-}
-
-/// What a cover must say, and leave of workspace and tile buffer: what the comparison at minimum 1 does, and the
-/// covered count of a tiling of its own for each minimum.
-fn expected_cover(
-    settings: Settings,
-    pair: [&[u32]; 2],
-    workspace: &mut [u32],
-    laid: &mut [u32],
-) -> Numbered<Covered> {
-    let tiling_at = |minimum| tiling(pair[0], pair[1], minimum);
-    let engine = Engine::Fast(settings);
-    let answer = reference::compare(engine, pair, 1, || tiling_at(1), workspace, laid);
-    expected(answer.refusal, ())?;
-    let counts = (1..=MAX_MINIMUM as usize).map(|minimum| reference::covered(&tiling_at(minimum)));
-    let counts = counts.map(|covered| covered as u32).collect();
-    Ok(([answer.tiles, answer.covered, answer.score], counts))
+    (answer, cover.covered)
 }
 
 /// Covers, with buffers around the sizes that the library names, and by one comparer over all pairs.
 pub fn covers(g: &mut Group) {
     let mut comparer = Comparer::new();
-    for number in 0..1_500 {
+    for number in 0..2_000 {
         let random = &mut g.random;
         let (longest, codes) = (random.pick(&[5, 40, 40, 120]), random.pick(&[1, 2, 5, 40]));
         let [mut first, second] = any_pair(random, longest, codes);
@@ -343,37 +327,43 @@ pub fn covers(g: &mut Group) {
             let long = random.one_in(2);
             first = faulty(random, 10, long, true);
         }
-        let mut settings = match Engine::any_fast(random, 1, first.len()) {
-            Engine::Fast(settings) if random.one_in(2) => settings,
-            _ => Settings::for_minimum(1),
-        };
+        let mut settings = any_settings(random, 1, first.len());
         if random.one_in(10) {
-            settings.buckets = random.pick(&[0, 1_025]);
+            settings.buckets = random.pick(&WRONG_BUCKETS);
         }
         if random.one_in(10) {
-            settings.start = random.pick(&[0, 2_049]);
+            settings.start = random.pick(&wrong_starts(1));
         }
         let (n, m) = (first.len(), second.len());
         let rooms = [workspace_words(n, m), tile_words(n, m, 1)];
         let [mut workspace, mut laid] = rooms.map(|needed| lent(random, needed));
-        let [mut left, mut kept] = [workspace.clone(), laid.clone()];
         let pair = [&first[..], &second[..]];
+        let curve = LazyCell::new(|| Curve::literal(pair));
+        let due = |settings, workspace: &mut [u32], laid: &mut [u32]| {
+            let mut counts = [0; COVER_WORDS];
+            let lent = [workspace, laid, &mut counts];
+            let answer = reference::cover(settings, pair, || &*curve, lent);
+            let answered = [answer.tiles, answer.covered, answer.score];
+            expected(answer.refusal, (answered, counts))
+        };
+
         let case = format_args!("pair {number}, {n} and {m} words");
-        let due = expected_cover(settings, pair, &mut left, &mut kept);
+        let [mut left, mut kept] = [workspace.clone(), laid.clone()];
+        let expected = due(settings, &mut left, &mut kept);
         let result = cover(&first, &second, settings, &mut workspace, &mut laid);
-        g.equal(case, numbered(result.map(covered)), due);
+        g.equal(case, numbered(result.map(covered)), expected);
         g.equal(case, [workspace, laid], [left, kept]);
 
-        let [mut left, mut kept] = rooms.map(|needed| vec![0; needed]);
-        let due = expected_cover(Settings::for_minimum(1), pair, &mut left, &mut kept);
-        let result = comparer.cover(&first, &second);
         let case = format_args!("pair {number}, {n} and {m} words, by a comparer");
+        let [mut left, mut kept] = rooms.map(|needed| vec![0; needed]);
+        let expected = due(Settings::for_minimum(1), &mut left, &mut kept);
+        let result = comparer.cover(&first, &second);
         if let Ok(cover) = &result {
             let core = cover.comparison.score;
             g.equal(case, score(cover.comparison.covered, n + m), core);
             at_minimums(g, cover);
         }
-        g.equal(case, numbered(result.map(covered)), due);
+        g.equal(case, numbered(result.map(covered)), expected);
     }
 }
 

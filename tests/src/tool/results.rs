@@ -1,7 +1,7 @@
 //! What the tool must print of comparisons: listings, JSON texts, tables.
 
 use super::fish::Fish;
-use crate::reference::{self, covered, score, tiling, Tile, MAX_MINIMUM};
+use crate::reference::{self, covered, score, tiling, Curve, Tile, COVER_WORDS};
 use crate::wise;
 
 /// The most words of a sequence that is compared by the literal tiling.
@@ -82,26 +82,24 @@ fn json_tile(tile: &Tile) -> String {
 pub struct Covers {
     pub ids: [u16; 2],
     pub lengths: [usize; 2],
-    pub covered: Vec<usize>,
-    pub scores: Vec<usize>,
+    pub covered: [usize; COVER_WORDS],
+    pub scores: [usize; COVER_WORDS],
 }
 
 /// The table of covers begins with this line.
 pub const COVERS: &str = "first_fish,second_fish,minimum,covered,score\n";
 
 impl Covers {
-    /// By a tiling of its own for each minimum.
+    /// By a comparison of its own for each minimum.
     pub fn new(first: &Fish, second: &Fish) -> Self {
-        let compared = |minimum| {
-            let compared = Compared::new(first, second, minimum);
-            (compared.covered(), compared.score())
-        };
-        let (covered, scores) = (1..=MAX_MINIMUM).map(compared).unzip();
+        let lengths = [first, second].map(|fish| fish.words.len());
+        let curve = Curve::of(|minimum| Compared::new(first, second, minimum as u32).tiles);
+        let covered = curve.covered.map(|covered| covered as usize);
         Self {
             ids: [first.id, second.id],
-            lengths: [first.words.len(), second.words.len()],
+            lengths,
             covered,
-            scores,
+            scores: covered.map(|covered| score(covered, lengths[0], lengths[1])),
         }
     }
 
