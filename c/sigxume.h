@@ -181,8 +181,8 @@ static inline int32_t sigxume_shift(sigxume_tile tile)
 }
 
 /* The score of a covered count, words being the sum of both lengths: 2,000 * covered divided by words, rounded down, and 0 for 0
- * words. A comparison answers its score; this is for a count that comes without one, as those of a cover do. Any numbers may be
- * given: a quotient that exceeds a uint32_t is the greatest one. */
+ * words. A comparison answers its score; this is for a count that comes without one, as those of a cover do. It is not proved as
+ * the core's scores are, but tested against them. Any numbers may be given: a quotient that exceeds a uint32_t is the greatest. */
 static inline uint32_t sigxume_score(uint32_t covered, size_t words)
 {
     uint32_t most = (uint32_t)-1;

@@ -107,8 +107,9 @@ pub const fn tile_words(first: usize, second: usize, minimum: u32) -> usize {
 
 /// The score of a covered count, `words` being the sum of both lengths: 2,000 × covered divided by
 /// words, rounded down, and 0 for 0 words. A comparison answers its score; this is for a count that
-/// comes without one, as those of a [`Cover`](crate::Cover) do. Any numbers may be given: a quotient
-/// that exceeds a `u32` is `u32::MAX`.
+/// comes without one, as those of a [`Cover`](crate::Cover) do. It is not proved as the core's
+/// scores are, but tested against them. Any numbers may be given: a quotient that exceeds a `u32` is
+/// `u32::MAX`.
 ///
 /// ```
 /// use sigxume::{score, Comparer, Symbol};

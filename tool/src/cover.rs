@@ -7,7 +7,7 @@ use std::ops::Range;
 
 /// Two fish, and what is covered of them at each minimum from 1 on.
 pub struct Covered<'a> {
-    pub fish: [&'a Fish; 2],
+    fish: [&'a Fish; 2],
     covered: [u32; COVER_WORDS],
 }
 

@@ -25,7 +25,7 @@ const APART: f64 = 32.0;
 const LEAST: usize = 8;
 
 /// How many colours and how many dashes there are. Both go round side by side: so twenty curves look different, and
-/// the first four differ in both. The colours differ in lightness too, for grey print and for the colour-blind.
+/// neighbours differ in both. Dashes, and the lightness of the colours, are for grey print and for the colour-blind.
 const COLOURS: usize = 5;
 const DASHES: usize = 4;
 
@@ -50,7 +50,7 @@ pub fn plot(pairs: &[Covered]) -> String {
     let axes = Axes {
         corner: [LEFT, LEGEND + LINE * curves.len() as f64 + 4.0],
         across: scale.minimums(),
-        down: scale.scores(),
+        down: scores(),
         baselines: [HEIGHT + 20.0, HEIGHT + 42.0],
         beside: 10.0,
     };
@@ -98,8 +98,8 @@ fn legend(heading: &str, curves: &[Curve], keys: &[String]) -> String {
     text + "</g>\n"
 }
 
-/// Minimums from 1 to the last that is shown, and scores. A minimum is as wide as it is far to the next, and its
-/// tick stands in its middle, so that no edge of a step is on a tick.
+/// Minimums from 1 to the last that is shown. A minimum is as wide as it is far to the next, and its tick stands in
+/// its middle, so that no edge of a step is on a tick.
 struct Scale {
     last: usize,
 }
@@ -117,11 +117,6 @@ impl Scale {
         minimums * WIDTH / self.last as f64
     }
 
-    /// How high a score is, from the top.
-    fn height(&self, score: usize) -> f64 {
-        (MOST - score) as f64 * HEIGHT / MOST as f64
-    }
-
     fn minimums(&self) -> Side {
         let far = |step: &usize| self.end(*step as f64) >= APART;
         let step = [1, 2, 4, 8].into_iter().find(far).unwrap_or(16);
@@ -133,15 +128,20 @@ impl Scale {
             title: "minimum".into(),
         }
     }
+}
 
-    fn scores(&self) -> Side {
-        let round = (0..=MOST).step_by(HUNDRED);
-        Side {
-            length: HEIGHT,
-            ticks: round.map(|score| (score, self.height(score))).collect(),
-            title: "score".into(),
-        }
+fn scores() -> Side {
+    let round = (0..=MOST).step_by(HUNDRED);
+    Side {
+        length: HEIGHT,
+        ticks: round.map(|score| (score, height(score))).collect(),
+        title: "score".into(),
     }
+}
+
+/// How far from the top a score is.
+fn height(score: usize) -> f64 {
+    (MOST - score) as f64 * HEIGHT / MOST as f64
 }
 
 /// A pair's curve.
@@ -182,7 +182,7 @@ impl<'a> Curve<'a> {
         format!("{}, {words}, {covered}", self.name())
     }
 
-    /// What is shown of the steps: from where to where, and how high.
+    /// What is shown of the steps: from where to where, and how far from the top.
     fn shown(&self, scale: &Scale) -> Vec<(&Step, [String; 3])> {
         let shown = self
             .steps
@@ -191,8 +191,7 @@ impl<'a> Curve<'a> {
         let shown = shown.map(|step| {
             let last = scale.last.min(step.minimums.end - 1);
             let [from, to] = [step.minimums.start - 1, last].map(|end| scale.end(end as f64));
-            let height = scale.height(step.score as usize);
-            (step, [from, to, height].map(place))
+            (step, [from, to, height(step.score as usize)].map(place))
         });
         shown.collect()
     }
