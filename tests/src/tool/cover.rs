@@ -13,14 +13,9 @@ use crate::random::Random;
 use crate::reference::{HEADER, TRAILER};
 use std::fmt::Arguments;
 
-/// Reads a JSON text from each line and prints its values in a form of its own; a key that is missing, out
-/// of order or there twice shows.
+/// Prints the values of each JSON text in a form of its own.
 const SCRIPT: &str = r#"
-import json
-def keys(pairs):
-    return ' '.join(key for key, _ in pairs), dict(pairs)
-for line in open('texts'):
-    names, d = json.loads(line, object_pairs_hook=keys)
+for names, d in texts():
     assert all(type(n) is int for numbers in d.values() for n in numbers)
     print(names, *d['fish'], *d['lengths'], *d['covered'], *d['score'])
 "#;
@@ -186,8 +181,7 @@ pub fn cover(g: &mut Group) {
         }
         expected += &values(&covers);
     }
-    tool.put("texts", &printed);
-    let read = python::run(SCRIPT, tool.folder());
+    let read = python::read_texts(SCRIPT, &tool, &printed);
     let difference = read.map(|read| differing(read.as_bytes(), expected.as_bytes()));
     g.equal(format_args!("read by Python"), difference, Ok(None));
     let lines = b"12 3 1 1 2 1 1 4\n13 2 1 1 4 3 1 1 1 1 2 1 1\n";
