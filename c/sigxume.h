@@ -64,6 +64,9 @@ extern "C" {
 #define SIGXUME_MAX_MINIMUM 256
 #define SIGXUME_MAX_BUCKETS 1024
 
+/* The words of a cover: one for each minimum. */
+#define SIGXUME_COVER_WORDS 256
+
 /* Settings of the fast engine that serve well, with sigxume_start below. The answer does not depend on them, only the time. */
 #define SIGXUME_MULTIPLIER 257
 #define SIGXUME_BUCKETS 1024
@@ -177,6 +180,16 @@ static inline int32_t sigxume_shift(sigxume_tile tile)
     return (int32_t)(tile.second - tile.first);
 }
 
+/* The score of a covered count, words being the sum of both lengths: 2,000 * covered divided by words, rounded down, and 0 for 0
+ * words. A comparison answers its score; this is for a count that comes without one, as those of a cover do. It is not proved as
+ * the core's scores are, but tested against them. Any numbers may be given: a quotient that exceeds a uint32_t is the greatest. */
+static inline uint32_t sigxume_score(uint32_t covered, size_t words)
+{
+    uint32_t most = (uint32_t)-1;
+    uint64_t score = words != 0 ? (uint64_t)2000 * covered / words : 0;
+    return score <= most ? (uint32_t)score : most;
+}
+
 /* A refusal's cause in words. */
 static inline const char *sigxume_reason(uint32_t refusal)
 {
@@ -255,6 +268,20 @@ sigxume_compared sigxume_compare_plain(
     const uint32_t *first, size_t first_len, const uint32_t *second, size_t second_len, uint32_t minimum, uint32_t *workspace,
     size_t workspace_len, uint32_t *tiles, size_t tiles_len);
 
+/*
+ * Compares two sequences once, by the fast engine at minimum 1, and fills the first SIGXUME_COVER_WORDS words of cover: word k is
+ * the covered count at minimum k + 1, zeros included, which is what sigxume_compare_fast would answer there. So the words never
+ * rise, and the first is the answer's covered. The other words of cover keep their values. Answer, tiles and workspace are those of
+ * sigxume_compare_fast at minimum 1: the tiles at a greater minimum are the first of these, down to the last that is long enough.
+ *
+ * Refused, in this order: TOO_LONG (1), UNSOUND (2), BUCKETS (4), SEARCH_LENGTH (5), WORKSPACE (6), TILE_BUFFER (7), all as at
+ * minimum 1, and then ROOM (11) where cover has fewer than SIGXUME_COVER_WORDS. Workspace, tiles and cover are then as they were.
+ */
+sigxume_compared sigxume_cover_fast(
+    const uint32_t *first, size_t first_len, const uint32_t *second, size_t second_len, uint32_t multiplier, uint32_t buckets,
+    uint32_t start, uint32_t *workspace, size_t workspace_len, uint32_t *tiles, size_t tiles_len, uint32_t *cover,
+    size_t cover_len);
+
 /* sigxume_compare_fast with the settings that serve well at this minimum, so that neither BUCKETS (4) nor SEARCH_LENGTH (5) is
  * refused. */
 static inline sigxume_compared sigxume_compare(
@@ -264,6 +291,16 @@ static inline sigxume_compared sigxume_compare(
     return sigxume_compare_fast(
         first, first_len, second, second_len, minimum, SIGXUME_MULTIPLIER, SIGXUME_BUCKETS, sigxume_start(minimum), workspace,
         workspace_len, tiles, tiles_len);
+}
+
+/* sigxume_cover_fast with the settings that serve well, so that neither BUCKETS (4) nor SEARCH_LENGTH (5) is refused. */
+static inline sigxume_compared sigxume_cover(
+    const uint32_t *first, size_t first_len, const uint32_t *second, size_t second_len, uint32_t *workspace, size_t workspace_len,
+    uint32_t *tiles, size_t tiles_len, uint32_t *cover, size_t cover_len)
+{
+    return sigxume_cover_fast(
+        first, first_len, second, second_len, SIGXUME_MULTIPLIER, SIGXUME_BUCKETS, sigxume_start(1), workspace, workspace_len,
+        tiles, tiles_len, cover, cover_len);
 }
 
 #ifdef __cplusplus

@@ -1,7 +1,8 @@
 //! Comparing many pairs with the same buffers.
 
 use crate::{
-    compare, tile_words, tiles, workspace_words, Comparison, Refusal, Settings, Tile, MAX_WORDS,
+    compare, cover, tile_words, tiles, workspace_words, Comparison, Cover, Refusal, Settings, Tile,
+    MAX_WORDS,
 };
 
 /// Compares pairs of sequences, with buffers of its own that grow as needed and serve from one
@@ -43,13 +44,44 @@ impl Comparer {
         second: &[u32],
         minimum: u32,
     ) -> Result<Tiling<'_>, Refusal> {
-        // A longer sequence is refused, so there is no need to make room for it.
-        let [n, m] = [first, second].map(|sequence| sequence.len().min(MAX_WORDS));
-        let workspace = part(&mut self.workspace, workspace_words(n, m));
-        let buffer = part(&mut self.tiles, tile_words(n, m, minimum));
+        let [workspace, buffer] = self.buffers(first, second, minimum);
         let settings = Settings::for_minimum(minimum);
         let answer = compare(first, second, minimum, settings, workspace, buffer)?;
         Ok(Tiling { answer, buffer })
+    }
+
+    /// Compares two sequences once, at minimum 1, and answers the covered count at every minimum.
+    /// Refused, in this order: [`TooLong`](Refusal::TooLong), [`Unsound`](Refusal::Unsound).
+    ///
+    /// ```
+    /// use sigxume::{score, Comparer, Symbol};
+    ///
+    /// let first = [1, 2, 3, 4, 5, 6].map(|code| Symbol::Call(code).word());
+    /// let second = [4, 5, 6, 1, 2, 9].map(|code| Symbol::Call(code).word());
+    ///
+    /// let mut comparer = Comparer::new();
+    /// let cover = comparer.cover(&first, &second)?;
+    /// for minimum in 1..=256 {
+    ///     let tiling = comparer.compare(&first, &second, minimum)?;
+    ///     let covered = cover.covered_at(minimum).unwrap();
+    ///     assert_eq!(covered, tiling.covered());
+    ///     assert_eq!(score(covered, first.len() + second.len()), tiling.score());
+    /// }
+    /// # Ok::<(), sigxume::Refusal>(())
+    /// ```
+    pub fn cover(&mut self, first: &[u32], second: &[u32]) -> Result<Cover, Refusal> {
+        let [workspace, buffer] = self.buffers(first, second, 1);
+        cover(first, second, Settings::for_minimum(1), workspace, buffer)
+    }
+
+    /// Workspace and tile buffer for a comparison of two sequences.
+    fn buffers(&mut self, first: &[u32], second: &[u32], minimum: u32) -> [&mut [u32]; 2] {
+        // A longer sequence is refused, so there is no need to make room for it.
+        let [n, m] = [first, second].map(|sequence| sequence.len().min(MAX_WORDS));
+        [
+            part(&mut self.workspace, workspace_words(n, m)),
+            part(&mut self.tiles, tile_words(n, m, minimum)),
+        ]
     }
 }
 

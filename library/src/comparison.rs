@@ -38,7 +38,7 @@ pub struct Comparison {
 }
 
 impl Comparison {
-    fn of(answer: raw::Compared) -> Result<Self, Refusal> {
+    pub(crate) fn of(answer: raw::Compared) -> Result<Self, Refusal> {
         Refusal::check(answer.refusal)?;
         Ok(Self {
             tiles: answer.tiles as usize,
@@ -101,6 +101,31 @@ pub const fn tile_words(first: usize, second: usize, minimum: u32) -> usize {
     let shorter = if first < second { first } else { second };
     match shorter.checked_div(minimum as usize) {
         Some(tiles) => tiles.saturating_mul(3),
+        None => 0,
+    }
+}
+
+/// The score of a covered count, `words` being the sum of both lengths: 2,000 × covered divided by
+/// words, rounded down, and 0 for 0 words. A comparison answers its score; this is for a count that
+/// comes without one, as those of a [`Cover`](crate::Cover) do. It is not proved as the core's
+/// scores are, but tested against them. Any numbers may be given: a quotient that exceeds a `u32` is
+/// `u32::MAX`.
+///
+/// ```
+/// use sigxume::{score, Comparer, Symbol};
+///
+/// let words = [7; 6].map(|code| Symbol::Call(code).word());
+/// let mut comparer = Comparer::new();
+/// let tiling = comparer.compare(&words, &words[..1], 1)?;
+/// assert_eq!((tiling.covered(), tiling.score()), (1, 285));
+/// assert_eq!(score(1, 6 + 1), 285);
+/// assert_eq!(score(0, 0), 0);
+/// # Ok::<(), sigxume::Refusal>(())
+/// ```
+pub const fn score(covered: usize, words: usize) -> u32 {
+    match (2_000 * covered as u128).checked_div(words as u128) {
+        Some(score) if score <= u32::MAX as u128 => score as u32,
+        Some(_) => u32::MAX,
         None => 0,
     }
 }

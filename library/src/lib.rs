@@ -28,10 +28,12 @@
 //! # Ok::<(), sigxume::Refusal>(())
 //! ```
 //!
+//! What a greater minimum would leave of it, [`Comparer::cover`] answers for every minimum at once.
+//!
 //! [`Comparer`] keeps buffers from one comparison to the next. Who has buffers already calls
-//! [`compare`], which allocates nothing; [`workspace_words`] and [`tile_words`] say how large they
-//! must be. No function keeps state, so any number of threads may call them, each with buffers of
-//! its own.
+//! [`compare`] and [`cover`], which allocate nothing; [`workspace_words`] and [`tile_words`] say how
+//! large they must be. No function keeps state, so any number of threads may call them, each with
+//! buffers of its own.
 
 #![deny(unsafe_code)]
 #![warn(missing_docs)]
@@ -42,6 +44,7 @@ pub mod raw;
 mod bytes;
 mod comparer;
 mod comparison;
+mod cover;
 mod record;
 mod refusal;
 mod symbol;
@@ -50,8 +53,9 @@ mod window;
 pub use bytes::{bytes_of_words, words_of_bytes};
 pub use comparer::{Comparer, Tiling};
 pub use comparison::{
-    compare, compare_plain, tile_words, tiles, workspace_words, Comparison, Settings, Tile,
+    compare, compare_plain, score, tile_words, tiles, workspace_words, Comparison, Settings, Tile,
 };
+pub use cover::{cover, Cover, COVER_WORDS};
 pub use record::{read, record_words, records, write, Entry, Record, Records};
 pub use refusal::Refusal;
 pub use symbol::{all_sound, words_match, Symbol};

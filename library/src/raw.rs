@@ -96,6 +96,21 @@ extern "C" {
         tiles: *mut u32,
         tiles_len: usize,
     ) -> Compared;
+    fn sigxume_cover_fast(
+        first: *const u32,
+        first_len: usize,
+        second: *const u32,
+        second_len: usize,
+        multiplier: u32,
+        buckets: u32,
+        start: u32,
+        workspace: *mut u32,
+        workspace_len: usize,
+        tiles: *mut u32,
+        tiles_len: usize,
+        cover: *mut u32,
+        cover_len: usize,
+    ) -> Compared;
 }
 
 /// Whether two words match.
@@ -186,6 +201,35 @@ pub fn compare_fast(
             workspace.len(),
             tiles.as_mut_ptr(),
             tiles.len(),
+        )
+    }
+}
+
+/// Compares two sequences by the fast engine at minimum 1, and fills the start of `cover` with the
+/// covered count at each minimum.
+pub fn cover_fast(
+    first: &[u32],
+    second: &[u32],
+    settings: Settings,
+    workspace: &mut [u32],
+    tiles: &mut [u32],
+    cover: &mut [u32],
+) -> Compared {
+    unsafe {
+        sigxume_cover_fast(
+            first.as_ptr(),
+            first.len(),
+            second.as_ptr(),
+            second.len(),
+            settings.multiplier,
+            settings.buckets,
+            settings.start,
+            workspace.as_mut_ptr(),
+            workspace.len(),
+            tiles.as_mut_ptr(),
+            tiles.len(),
+            cover.as_mut_ptr(),
+            cover.len(),
         )
     }
 }

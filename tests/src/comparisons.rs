@@ -7,33 +7,22 @@ pub mod mistakes;
 pub mod restarts;
 pub mod settings;
 
-use crate::engine::{starts, Engine, BUCKETS, MULTIPLIERS};
+use crate::engine::{every_settings, Engine};
 use crate::group::Group;
 use crate::known::{self, Letters, LISTING};
-use crate::pairs::{any_pair, calls, distinct, periodic, related, unrelated, Pair};
+use crate::pairs::{
+    any_pair, both_orders, calls, distinct, every_sequence, pattern_words, periodic, related,
+    unrelated, Pair, Sides,
+};
 use crate::random::Random;
 use crate::records::WORKED;
 use crate::reference::{
     self, listing, tile_words, tiling, workspace_words, Tile, MAX_MINIMUM, MAX_WORDS,
 };
-use crate::samples::{call, NO_CALL};
+use crate::samples::{call, fills, NO_CALL};
 use sigxume::raw::{self, Compared};
 use std::cell::OnceCell;
 use std::fmt::Arguments;
-
-/// A pair as it is handed in, first and second.
-type Sides<'a> = [&'a [u32]; 2];
-
-/// The pair as handed in and the other way round.
-fn both_orders(pair: &Pair) -> [Sides<'_>; 2] {
-    let [first, second] = pair;
-    [[first, second], [second, first]]
-}
-
-/// The length of the pattern, which is the shorter sequence.
-fn pattern_words([first, second]: Sides) -> usize {
-    first.len().min(second.len())
-}
 
 /// The plain engine, and the fast one with two settings that are accepted at a minimum.
 fn engines(random: &mut Random, pair: Sides, minimum: u32) -> [Engine; 3] {
@@ -44,14 +33,8 @@ fn engines(random: &mut Random, pair: Sides, minimum: u32) -> [Engine; 3] {
 
 /// The fast engine with every setting of the tables that is accepted at a minimum.
 fn every_fast(pair: Sides, minimum: u32) -> Vec<Engine> {
-    let mut engines = Vec::new();
-    for multiplier in MULTIPLIERS {
-        for buckets in BUCKETS {
-            let starts = starts(minimum, pattern_words(pair)).into_iter();
-            engines.extend(starts.map(|start| Engine::fast(multiplier, buckets, start)));
-        }
-    }
-    engines
+    let settings = every_settings(minimum, pattern_words(pair));
+    settings.into_iter().map(Engine::Fast).collect()
 }
 
 /// A pair to compare at a minimum. Its tiles are the same for every engine; they are found once, and
@@ -169,13 +152,11 @@ fn expect(g: &mut Group, case: Arguments, pair: Sides, minimum: u32, laid: &[Til
 }
 
 /// An engine's answer to a pair that is accepted, and the tiles that it lists.
-fn listed(engine: Engine, pair: Sides, minimum: u32) -> (Compared, Vec<Tile>) {
+pub fn listed(engine: Engine, pair: Sides, minimum: u32) -> (Compared, Vec<Tile>) {
     let rooms = Problem::new(pair, minimum).needed();
     let [mut workspace, mut tiles] = rooms.map(|room| vec![0; room]);
     let answer = engine.compare(pair, minimum, &mut workspace, &mut tiles);
-    let rows = tiles.chunks_exact(3).take(answer.tiles as usize);
-    let rows = rows.map(|row| Tile::from([row[0], row[1], row[2]].map(|word| word as usize)));
-    (answer, rows.collect())
+    (answer, Tile::list(&tiles, answer.tiles))
 }
 
 /// K1 to K11 with every setting of the tables, and the worked example from its two records to its
@@ -221,22 +202,6 @@ pub fn known(g: &mut Group) {
         let case = format_args!("{engine}: worked example");
         g.equal(case, &listing[..], LISTING);
     }
-}
-
-/// Every sequence of up to `longest` words that are all in the table.
-fn every_sequence(table: &[u32], longest: usize) -> Vec<Vec<u32>> {
-    let mut all = vec![Vec::new()];
-    let mut start = 0;
-    for _ in 0..longest {
-        let shorter = start..all.len();
-        start = all.len();
-        for at in shorter {
-            for &word in table {
-                all.push([&all[at][..], &[word]].concat());
-            }
-        }
-    }
-    all
 }
 
 /// Every pair of short sequences: of one code, of two codes, of three, and of two and the no-call.
@@ -346,8 +311,7 @@ pub fn larger(g: &mut Group) {
     compare_random(g, 150, &[1, 2, 4, 20, 300], &[100, 300, 500], &minimums);
 }
 
-/// What the workspace and the tile buffer held before, other than random words: zeros, ones, small
-/// numbers, calls, no-calls, the pair itself.
+/// What the workspace and the tile buffer held before, other than random words.
 pub fn held(g: &mut Group) {
     for number in 0..300 {
         let pair = any_pair(&mut g.random, 60, 4);
@@ -355,18 +319,7 @@ pub fn held(g: &mut Group) {
         let minimum = g.random.pick(&[1, 2, 3]);
         let problem = Problem::new([first, second], minimum);
         let rooms = problem.enough(&mut g.random);
-        let words = [&first[..], second].concat();
-        let table: [(&str, &[u32]); 8] = [
-            ("zeros", &[0]),
-            ("ones", &[1]),
-            ("the largest number", &[u32::MAX]),
-            ("2,048", &[2_048]),
-            ("small numbers", &[0, 1, 2, 3, 5, 8, 13, 21, 34]),
-            ("calls", &[call(1), call(2), call(3)]),
-            ("no-calls", &[NO_CALL]),
-            ("the pair", &words),
-        ];
-        for (name, words) in table {
+        for (name, words) in fills(&pair) {
             let case = format_args!("pair {number}, minimum {minimum}, {name} before");
             for engine in problem.engines(&mut g.random) {
                 let held = rooms.map(|room| words.iter().copied().cycle().take(room).collect());

@@ -4,6 +4,7 @@
 pub mod baselines;
 pub mod benchmark;
 pub mod comparisons;
+pub mod cover;
 pub mod documents;
 pub mod engine;
 pub mod group;

@@ -1,19 +1,26 @@
 //! The Rust library over the core: its results, its sizes of buffers, its words for refusals.
 
-use crate::engine::Engine;
+use crate::engine::{any_settings, wrong_starts, Engine, WRONG_BUCKETS};
 use crate::group::Group;
 use crate::pairs::any_pair;
+use crate::process::printed;
 use crate::random::Random;
-use crate::reference::{self, record, tiling, MAX_WORDS, ROOM};
+use crate::reference::{self, record, tiling, Curve, MAX_MINIMUM, MAX_WORDS, ROOM};
 use crate::samples::{any_length, call, faulty, ids, sequence, sound_word, unsound_word, NO_CALL};
+use crate::tool::Tool;
 use sigxume::{
-    bytes_of_words, compare, compare_plain, hash_list, hash_words, read, record_words, records,
-    tile_words, tiles, words_match, words_of_bytes, workspace_words, write, Comparer, Refusal,
-    Settings, Symbol, Tile,
+    bytes_of_words, compare, compare_plain, cover, hash_list, hash_words, read, record_words,
+    records, score, tile_words, tiles, words_match, words_of_bytes, workspace_words, write,
+    Comparer, Cover, Refusal, Settings, Symbol, Tile, COVER_WORDS,
 };
+use std::cell::LazyCell;
+use std::process::Command;
 
 /// The C header, which says some of the same.
 const HEADER: &str = include_str!("../../c/sigxume.h");
+
+/// The folder of it.
+const HEADERS: &str = concat!(env!("CARGO_MANIFEST_DIR"), "/../c");
 
 /// A result with the refusal's number in its place.
 type Numbered<T> = Result<T, u32>;
@@ -117,6 +124,7 @@ pub fn header(g: &mut Group) {
         ("MAX_TILE_WORDS", tile_words(MAX_WORDS, MAX_WORDS, 1)),
         ("MAX_MINIMUM", sigxume::MAX_MINIMUM as usize),
         ("MAX_BUCKETS", sigxume::MAX_BUCKETS as usize),
+        ("COVER_WORDS", COVER_WORDS),
         ("MULTIPLIER", settings.multiplier as usize),
         ("BUCKETS", settings.buckets as usize),
     ] {
@@ -297,6 +305,159 @@ pub fn comparer(g: &mut Group) {
         let case = format_args!("shift of {first} and {second}");
         g.equal(case, found, Some(shift));
     }
+}
+
+/// What a cover says: tiles, covered and score of the comparison at minimum 1, and the covered count at each.
+type Covered = ([u32; 3], [u32; COVER_WORDS]);
+
+fn covered(cover: Cover) -> Covered {
+    let answer = cover.comparison;
+    let answer = [answer.tiles as u32, answer.covered as u32, answer.score];
+    (answer, cover.covered)
+}
+
+/// Covers, with buffers around the sizes that the library names, and by one comparer over all pairs.
+pub fn covers(g: &mut Group) {
+    let mut comparer = Comparer::new();
+    for number in 0..2_000 {
+        let random = &mut g.random;
+        let (longest, codes) = (random.pick(&[5, 40, 40, 120]), random.pick(&[1, 2, 5, 40]));
+        let [mut first, second] = any_pair(random, longest, codes);
+        if random.one_in(20) {
+            let long = random.one_in(2);
+            first = faulty(random, 10, long, true);
+        }
+        let mut settings = any_settings(random, 1, first.len());
+        if random.one_in(10) {
+            settings.buckets = random.pick(&WRONG_BUCKETS);
+        }
+        if random.one_in(10) {
+            settings.start = random.pick(&wrong_starts(1));
+        }
+        let (n, m) = (first.len(), second.len());
+        let rooms = [workspace_words(n, m), tile_words(n, m, 1)];
+        let [mut workspace, mut laid] = rooms.map(|needed| lent(random, needed));
+        let pair = [&first[..], &second[..]];
+        let curve = LazyCell::new(|| Curve::literal(pair));
+        let due = |settings, workspace: &mut [u32], laid: &mut [u32]| {
+            let mut counts = [0; COVER_WORDS];
+            let lent = [workspace, laid, &mut counts];
+            let answer = reference::cover(settings, pair, || &*curve, lent);
+            let answered = [answer.tiles, answer.covered, answer.score];
+            expected(answer.refusal, (answered, counts))
+        };
+
+        let case = format_args!("pair {number}, {n} and {m} words");
+        let [mut left, mut kept] = [workspace.clone(), laid.clone()];
+        let expected = due(settings, &mut left, &mut kept);
+        let result = cover(&first, &second, settings, &mut workspace, &mut laid);
+        g.equal(case, numbered(result.map(covered)), expected);
+        g.equal(case, [workspace, laid], [left, kept]);
+
+        let case = format_args!("pair {number}, {n} and {m} words, by a comparer");
+        let [mut left, mut kept] = rooms.map(|needed| vec![0; needed]);
+        let expected = due(Settings::for_minimum(1), &mut left, &mut kept);
+        let result = comparer.cover(&first, &second);
+        if let Ok(cover) = &result {
+            let core = cover.comparison.score;
+            g.equal(case, score(cover.comparison.covered, n + m), core);
+            at_minimums(g, cover);
+        }
+        g.equal(case, numbered(result.map(covered)), expected);
+    }
+}
+
+/// A cover by minimum: each entry at its own, and none where there is no such minimum.
+fn at_minimums(g: &mut Group, cover: &Cover) {
+    let entries = (1..=MAX_MINIMUM).map(|minimum| cover.covered_at(minimum));
+    let due = cover.covered.iter().map(|&covered| Some(covered as usize));
+    let case = format_args!("by minimum");
+    g.equal(case, Vec::from_iter(entries), Vec::from_iter(due));
+    let none = [0, MAX_MINIMUM + 1, u32::MAX].map(|minimum| cover.covered_at(minimum));
+    g.equal(case, none, [None; 3]);
+}
+
+/// Reads covered counts and sums of lengths, and prints the score that the header makes of each.
+const SCORES: &str = r#"
+#include "sigxume.h"
+#include <inttypes.h>
+#include <stdio.h>
+
+int main(void)
+{
+    uint32_t covered;
+    size_t words;
+    while (scanf("%" SCNu32 " %zu", &covered, &words) == 2)
+        printf("%" PRIu32 "\n", sigxume_score(covered, words));
+    return 0;
+}
+"#;
+
+/// The score of a covered count, with room for any numbers; the greatest word where there is none in the answer.
+fn wide_score(covered: usize, words: usize) -> u32 {
+    let score = (2_000 * covered as u128).checked_div(words as u128);
+    u32::try_from(score.unwrap_or(0)).unwrap_or(u32::MAX)
+}
+
+/// The scores of the Rust library and of the C header, for every sum of two lengths, and for numbers at the ends.
+pub fn scores(g: &mut Group) {
+    let mut all = Vec::new();
+    for words in 0..=2 * MAX_WORDS {
+        let random = g.random.below(words / 2 + 1);
+        for covered in [0, 1, random, words / 2, words] {
+            let due = reference::score(covered, words, 0) as u32;
+            let case = format_args!("{covered} of {words}, expected");
+            g.equal(case, wide_score(covered, words), due);
+            all.push((covered, words));
+        }
+    }
+    let small = [0, 1, 2, 1_999, 2_000, 2_001, 4_096, 2_147_483, 2_147_484];
+    let wide = [1 << 31, 1 << 32, usize::MAX / 2_000, usize::MAX];
+    let ends = wide
+        .iter()
+        .flat_map(|&end| [end - 1, end, end.saturating_add(1)]);
+    let ends = Vec::from_iter(small.into_iter().chain(ends));
+    let each = ends.iter().flat_map(|&a| ends.iter().map(move |&b| (a, b)));
+    all.extend(each);
+    for _ in 0..20_000 {
+        let random = &mut g.random;
+        let number = |random: &mut Random| {
+            let wide = (random.word() as usize) << 32 | random.word() as usize;
+            wide >> random.below(64)
+        };
+        all.push((number(random), number(random)));
+    }
+    for &(covered, words) in &all {
+        let case = format_args!("{covered} of {words}");
+        g.equal(case, score(covered, words), wide_score(covered, words));
+    }
+    // A covered count is a word in C.
+    all.retain(|&(covered, _)| u32::try_from(covered).is_ok());
+    let lines = all
+        .iter()
+        .map(|(covered, words)| format!("{covered} {words}\n"));
+    let found = by_c(g, &lines.collect::<String>());
+    g.equal(format_args!("in C"), found.as_ref().err(), None);
+    let found = found.unwrap_or_default();
+    let found = Vec::from_iter(found.lines());
+    g.equal(format_args!("in C"), found.len(), all.len());
+    for (&(covered, words), found) in all.iter().zip(found) {
+        let case = format_args!("{covered} of {words} in C");
+        g.equal(case, found, &wide_score(covered, words).to_string());
+    }
+}
+
+/// What the program in C prints of its input.
+fn by_c(g: &Group, input: &str) -> Result<String, String> {
+    let tool = Tool::new(g);
+    tool.put("scores.c", SCORES);
+    let mut compiler = Command::new("cc");
+    compiler.current_dir(tool.folder());
+    compiler.args(["-std=c99", "-Wall", "-Wextra", "-Wpedantic", "-Werror"]);
+    compiler.args(["-I", HEADERS, "scores.c", "-o", "scores"]);
+    printed(&mut compiler, b"")?;
+    let mut program = Command::new(tool.folder().join("scores"));
+    printed(&mut program, input.as_bytes())
 }
 
 /// The list of hashes, with buffers around the size that the library names.

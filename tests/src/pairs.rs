@@ -1,11 +1,42 @@
 //! Sequences to compare: over few codes, of codes that occur once, periodic, and edited copies.
 
 use crate::random::Random;
+use crate::reference::Tile;
 use crate::samples::{call, NO_CALL};
 use std::ops::Range;
 
 /// The first and the second sequence of a comparison.
 pub type Pair = [Vec<u32>; 2];
+
+/// A pair as it is handed in, first and second.
+pub type Sides<'a> = [&'a [u32]; 2];
+
+/// The pair as handed in and the other way round.
+pub fn both_orders(pair: &Pair) -> [Sides<'_>; 2] {
+    let [first, second] = pair;
+    [[first, second], [second, first]]
+}
+
+/// The length of the pattern, which is the shorter sequence.
+pub fn pattern_words([first, second]: Sides) -> usize {
+    first.len().min(second.len())
+}
+
+/// Every sequence of up to `longest` words that are all in the table.
+pub fn every_sequence(table: &[u32], longest: usize) -> Vec<Vec<u32>> {
+    let mut all = vec![Vec::new()];
+    let mut start = 0;
+    for _ in 0..longest {
+        let shorter = start..all.len();
+        start = all.len();
+        for at in shorter {
+            for &word in table {
+                all.push([&all[at][..], &[word]].concat());
+            }
+        }
+    }
+    all
+}
 
 /// A call of one of the codes 1 to `codes`.
 fn letter(random: &mut Random, codes: u16) -> u32 {
@@ -30,6 +61,18 @@ pub fn periodic(length: usize, period: usize, phase: usize) -> Vec<u32> {
     codes.map(call).collect()
 }
 
+/// One code with a no-call in place of every 128th word. Against the code alone almost every pair of
+/// positions begins a long run, and none of them is much longer than another.
+pub fn broken(code: u16, length: usize) -> Vec<u32> {
+    let mut words = vec![call(code); length];
+    words
+        .iter_mut()
+        .skip(127)
+        .step_by(128)
+        .for_each(|word| *word = NO_CALL);
+    words
+}
+
 /// 0 to `n - 1` in any order.
 pub fn shuffled(random: &mut Random, n: usize) -> Vec<usize> {
     let mut order: Vec<usize> = (0..n).collect();
@@ -37,6 +80,29 @@ pub fn shuffled(random: &mut Random, n: usize) -> Vec<usize> {
         order.swap(i, random.below(i + 1));
     }
     order
+}
+
+/// Blocks of these lengths in this order on the first side, in any order on the second, each with a
+/// no-call after it; and their tiles, which are known since every code occurs in one block only.
+pub fn blocks(random: &mut Random, lengths: &[usize]) -> (Pair, Vec<Tile>) {
+    let start = |order: &[usize], i: usize| -> usize {
+        let before = order.iter().take_while(|&&other| other != i);
+        before.map(|&other| lengths[other] + 1).sum()
+    };
+    let straight = Vec::from_iter(0..lengths.len());
+    let order = shuffled(random, lengths.len());
+    let separated: Vec<Vec<u32>> = straight
+        .iter()
+        .map(|&i| [&distinct(start(&straight, i), lengths[i])[..], &[NO_CALL]].concat())
+        .collect();
+    let mut tiles: Vec<Tile> = straight
+        .iter()
+        .map(|&i| [start(&straight, i), start(&order, i), lengths[i]].into())
+        .collect();
+    // The longest first; the sort leaves equal ones in the order of the first side, the pattern.
+    tiles.sort_by_key(|tile| std::cmp::Reverse(tile.length));
+    let second: Vec<&[u32]> = order.iter().map(|&i| &separated[i][..]).collect();
+    ([separated.concat(), second.concat()], tiles)
 }
 
 /// A stretch of 1 to `longest` words within the first `length` ones.

@@ -34,6 +34,17 @@ pub fn run(command: &mut Command, input: &[u8], (piece, pause): Pieces) -> io::R
     })
 }
 
+/// What a command prints that ends well; or why there is nothing.
+pub fn printed(command: &mut Command, input: &[u8]) -> Result<String, String> {
+    let name = command.get_program().to_string_lossy().into_owned();
+    let ran = run(command, input, AT_ONCE);
+    let ran = ran.map_err(|error| format!("{name}, which these cases need: {error}"))?;
+    match ran.status.success() {
+        true => Ok(lossy(&ran.stdout)),
+        false => Err(format!("{name}: {}, {}", ran.status, lossy(&ran.stderr))),
+    }
+}
+
 /// Bytes as text, for messages and comparisons.
 pub fn lossy(bytes: &[u8]) -> String {
     String::from_utf8_lossy(bytes).into_owned()

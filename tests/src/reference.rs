@@ -1,10 +1,12 @@
-//! The reference: what the scope paper (01) says, written the most direct way and apart from the
-//! core. The comments quote 01; a sequence is its strand, a record its strip, a header its heading,
-//! a trailer its closing word and an id its fish number.
+//! The reference: what the scope paper (01) says, and after it the requests (02), written the most
+//! direct way and apart from the core. The comments quote 01, or 02 where they say so; a sequence is
+//! their strand, a record their strip, a header their heading, a trailer their closing word and an id
+//! their fish number.
 
 use crate::engine::Engine;
 use sigxume::raw::{Compared, Counted, ReadAnswer};
 use sigxume::Settings;
+use std::array;
 use std::borrow::Borrow;
 
 /// "A strand is 0 to 2,048 words [..]."
@@ -15,6 +17,9 @@ pub const MAX_MINIMUM: u32 = 256;
 
 /// "Bucket count not 1 to 1,024" is refused.
 pub const MAX_BUCKETS: u32 = 1_024;
+
+/// 02: "entry k, from 0 to 255, holds the covered count at minimum k + 1".
+pub const COVER_WORDS: usize = 256;
 
 // The refusals' numbers in 01's table.
 pub const TOO_LONG: u32 = 1;
@@ -192,6 +197,20 @@ pub struct Tile {
     pub length: usize,
 }
 
+impl Tile {
+    /// The same tile with the sides exchanged.
+    pub fn exchanged(self) -> Self {
+        [self.second, self.first, self.length].into()
+    }
+
+    /// The first so many tiles in a tile buffer.
+    pub fn list(buffer: &[u32], count: u32) -> Vec<Self> {
+        let rows = buffer.chunks_exact(3).take(count as usize);
+        let rows = rows.map(|row| [row[0], row[1], row[2]].map(|word| word as usize));
+        rows.map(Self::from).collect()
+    }
+}
+
 impl From<[usize; 3]> for Tile {
     fn from([first, second, length]: [usize; 3]) -> Self {
         Self {
@@ -309,6 +328,16 @@ fn check(
     refuse(tiles < tile_words(first, second, minimum), TILES)
 }
 
+/// What a refused comparison answers: "number, every other number 0".
+fn refused(refusal: u32) -> Compared {
+    Compared {
+        refusal,
+        tiles: 0,
+        covered: 0,
+        score: 0,
+    }
+}
+
 /// What an accepted comparison of two sequences of these lengths answers and leaves behind, for the
 /// tiles in the order laid: "the whole lent workspace is zero", and "words beyond the last tile keep
 /// their values".
@@ -342,12 +371,7 @@ pub fn compare<T: Borrow<[Tile]>>(
     tiles: &mut [u32],
 ) -> Compared {
     match check(engine, sequences, minimum, [workspace.len(), tiles.len()]) {
-        Err(refusal) => Compared {
-            refusal,
-            tiles: 0,
-            covered: 0,
-            score: 0,
-        },
+        Err(refusal) => refused(refusal),
         Ok(()) => accept(
             laid().borrow(),
             sequences.map(<[u32]>::len),
@@ -368,6 +392,55 @@ pub fn compare_plain(
     let laid = || tiling(first, second, minimum as usize);
     let sequences = [first, second];
     compare(Engine::Plain, sequences, minimum, laid, workspace, tiles)
+}
+
+/// What tilings of a pair at every minimum come to.
+pub struct Curve {
+    /// The tiles at minimum 1 in the order laid.
+    pub laid: Vec<Tile>,
+    /// The covered count at minimum k + 1, for each k.
+    pub covered: [u32; COVER_WORDS],
+}
+
+impl Curve {
+    /// From the tiles at each minimum: a tiling by itself for each, so nothing is known of one from
+    /// another.
+    pub fn of(tiles: impl Fn(usize) -> Vec<Tile>) -> Self {
+        Self {
+            laid: tiles(1),
+            covered: array::from_fn(|k| covered(&tiles(k + 1)) as u32),
+        }
+    }
+
+    /// By the literal tiling.
+    pub fn literal([first, second]: [&[u32]; 2]) -> Self {
+        Self::of(|minimum| tiling(first, second, minimum))
+    }
+}
+
+/// The cover at every minimum (02, U1): "run a pair at minimum 1 and fill a lent buffer"; "the tile
+/// buffer and the reply are that run's", which is the fast engine's. The buffers are the workspace,
+/// the tile buffer and that for the cover; `curve` is only asked where the cover is accepted.
+pub fn cover<C: Borrow<Curve>>(
+    settings: Settings,
+    sequences: [&[u32]; 2],
+    curve: impl FnOnce() -> C,
+    [workspace, tiles, cover]: [&mut [u32]; 3],
+) -> Compared {
+    let rooms = [workspace.len(), tiles.len()];
+    // "A buffer below 256 words is 11, after the comparison's own checks at minimum 1."
+    let checked = check(Engine::Fast(settings), sequences, 1, rooms)
+        .and_then(|()| refuse(cover.len() < COVER_WORDS, ROOM));
+    match checked {
+        Err(refusal) => refused(refusal),
+        Ok(()) => {
+            let curve = curve();
+            let Curve { laid, covered } = curve.borrow();
+            // "Entries past 255 keep their values."
+            cover[..COVER_WORDS].copy_from_slice(covered);
+            accept(laid, sequences.map(<[u32]>::len), workspace, tiles)
+        }
+    }
 }
 
 /// What is printed of a comparison: "fish numbers; minimum; tile count; per tile first start, second

@@ -1,5 +1,6 @@
 //! Words, sequences, buffer sizes and combinations of faults that several groups use.
 
+use crate::pairs::Pair;
 use crate::random::Random;
 use crate::reference;
 
@@ -76,6 +77,18 @@ pub fn faulty(random: &mut Random, length: usize, long: bool, unsound: bool) -> 
     words
 }
 
+/// A pair of which the first side, the second or both are too long, and one or both have an unsound
+/// word; or neither. The first has the length, where it is not too long.
+pub fn faulty_pair(random: &mut Random, length: usize, long: bool, unsound: bool) -> Pair {
+    let sides = [[true, false], [false, true], [true, true]];
+    let (of_long, of_unsound) = (random.pick(&sides), random.pick(&sides));
+    let lengths = [length, 2 + random.below(60)];
+    [0, 1].map(|i| {
+        let (long, unsound) = (long && of_long[i], unsound && of_unsound[i]);
+        faulty(random, lengths[i], long, unsound)
+    })
+}
+
 /// Positions of a sequence, each with unsound words to put there: a random one, and in a short
 /// sequence every one of the table.
 pub fn damages(random: &mut Random, length: usize) -> Vec<(usize, u32)> {
@@ -112,6 +125,30 @@ pub fn rooms(needed: usize) -> Vec<usize> {
     ];
     rooms.dedup();
     rooms
+}
+
+/// A buffer size for a number of words, of which there is at least one: too short, or exact or longer.
+pub fn some_room(random: &mut Random, needed: usize, short: bool) -> usize {
+    if short {
+        random.pick(&[0, needed / 2, needed - 1])
+    } else {
+        needed + random.below(3)
+    }
+}
+
+/// What buffers may have held before, other than random words: these words over and over, each list
+/// with its name. None is empty, the pair itself having a no-call after it.
+pub fn fills(pair: &Pair) -> [(&'static str, Vec<u32>); 8] {
+    [
+        ("zeros", vec![0]),
+        ("ones", vec![1]),
+        ("the largest number", vec![u32::MAX]),
+        ("2,048", vec![2_048]),
+        ("small numbers", vec![0, 1, 2, 3, 5, 8, 13, 21, 34]),
+        ("calls", [1, 2, 3].map(call).to_vec()),
+        ("no-calls", vec![NO_CALL]),
+        ("the pair", [&pair.concat()[..], &[NO_CALL]].concat()),
+    ]
 }
 
 /// The number that is due: that of the first cause that holds, or 0 where none does.

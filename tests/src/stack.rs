@@ -8,7 +8,9 @@ use crate::pairs::{calls, distinct, periodic, related, unrelated, Pair};
 use crate::process::{self, lossy, AT_ONCE};
 use crate::program;
 use crate::random::Random;
-use crate::reference::{self, hash_list, record, tile_words, workspace_words, MAX_WORDS};
+use crate::reference::{
+    self, hash_list, record, tile_words, workspace_words, COVER_WORDS, MAX_WORDS,
+};
 use crate::samples::NO_CALL;
 use crate::tool::PROGRAMS;
 use sigxume::{raw, Settings};
@@ -74,6 +76,22 @@ fn pairs(random: &mut Random) -> Vec<(&'static str, Pair, u32)> {
     ]
 }
 
+/// Settings that are accepted at a minimum: the library's, the pair program's buckets, one bucket for
+/// all, the longest first search length.
+fn settings(minimum: u32) -> [Settings; 4] {
+    let of = |multiplier, buckets, start| Settings {
+        multiplier,
+        buckets,
+        start,
+    };
+    [
+        Settings::for_minimum(minimum),
+        of(257, 256, minimum),
+        of(0, 1, minimum),
+        of(257, 1_024, MAX_WORDS as u32),
+    ]
+}
+
 /// Both engines.
 pub fn engines(g: &mut Group) {
     for (document, text, size) in [
@@ -89,14 +107,8 @@ pub fn engines(g: &mut Group) {
         let (n, m) = (first.len(), second.len());
         let rooms = [workspace_words(n, m), tile_words(n, m, minimum)];
         let pair = [&first[..], &second[..]];
-        let engines = [
-            Engine::Plain,
-            Engine::Fast(Settings::for_minimum(minimum)),
-            Engine::fast(257, 256, minimum),
-            Engine::fast(0, 1, minimum),
-            Engine::fast(257, 1_024, MAX_WORDS as u32),
-        ];
-        for engine in engines {
+        let fast = settings(minimum).map(Engine::Fast);
+        for engine in [Engine::Plain].into_iter().chain(fast) {
             let stack = match engine {
                 Engine::Plain => LEAST,
                 Engine::Fast(_) => THREAD,
@@ -112,6 +124,27 @@ pub fn engines(g: &mut Group) {
                     })
                 },
                 |[workspace, tiles]| engine.compare(pair, minimum, workspace, tiles),
+            );
+        }
+    }
+}
+
+/// The cover at every minimum, by the fast engine.
+pub fn cover(g: &mut Group) {
+    for (name, [first, second], _) in pairs(&mut g.random) {
+        let (n, m) = (first.len(), second.len());
+        let rooms = [workspace_words(n, m), tile_words(n, m, 1), COVER_WORDS];
+        for settings in settings(1) {
+            let case = format!("{name}, cover, {}", Engine::Fast(settings));
+            let cover = |[workspace, tiles, cover]: [&mut [u32]; 3]| {
+                raw::cover_fast(&first, &second, settings, workspace, tiles, cover)
+            };
+            g.lend(
+                format_args!("{case}"),
+                rooms,
+                Some(0),
+                |lent| within(&case, THREAD, || cover(lent)),
+                cover,
             );
         }
     }

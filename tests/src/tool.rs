@@ -6,6 +6,8 @@ pub mod bad_records;
 pub mod chain;
 pub mod choice;
 pub mod compare;
+pub mod cover;
+pub mod curves;
 pub mod expected;
 pub mod faults;
 pub mod fish;
@@ -21,6 +23,7 @@ pub mod progress;
 pub mod python;
 pub mod results;
 pub mod round_trips;
+pub mod svg;
 pub mod unreadable;
 pub mod usage;
 

@@ -1,6 +1,7 @@
 //! A sequence along a side of the plot: its scale and its ticks.
 
 use crate::fish::Fish;
+use crate::svg::{counted, Side};
 
 /// The longer side of the plot, and the least that the shorter one has.
 const LONG: f64 = 640.0;
@@ -13,7 +14,7 @@ pub struct Axis {
     pub id: u16,
     pub words: usize,
     /// How long the side is.
-    pub side: f64,
+    pub length: f64,
 }
 
 impl Axis {
@@ -27,22 +28,27 @@ impl Axis {
             Self {
                 id: fish.id,
                 words,
-                side: (LONG * words as f64 / longer).max(SHORT),
+                length: (LONG * words as f64 / longer).max(SHORT),
             }
         })
     }
 
-    pub fn title(&self) -> String {
-        format!("fish {}, {}", self.id, counted(self.words, "word"))
+    /// The side of the plot.
+    pub fn side(&self) -> Side {
+        Side {
+            length: self.length,
+            ticks: self.ticks(),
+            title: format!("fish {}, {}", self.id, counted(self.words, "word")),
+        }
     }
 
     /// How long a word is.
     pub fn scale(&self) -> f64 {
-        self.side / self.words.max(1) as f64
+        self.length / self.words.max(1) as f64
     }
 
     /// Round positions, each with how far along it is.
-    pub fn ticks(&self) -> Vec<(usize, f64)> {
+    fn ticks(&self) -> Vec<(usize, f64)> {
         let far = |words: usize| words as f64 * self.scale();
         let powers = [1, 10, 100, 1_000];
         let mut steps = powers
@@ -54,10 +60,4 @@ impl Axis {
             .map(|position| (position, far(position)))
             .collect()
     }
-}
-
-/// So many of something: `1 word`, `7 words`.
-pub fn counted(count: usize, what: &str) -> String {
-    let ending = if count == 1 { "" } else { "s" };
-    format!("{count} {what}{ending}")
 }

@@ -1,5 +1,6 @@
 //! What the subcommands do.
 
+use crate::cover::{self, Covered};
 use crate::failure::Failure;
 use crate::fish::{self, Fish};
 use crate::input::{Form, Reader};
@@ -8,8 +9,8 @@ use crate::output::{self, Output};
 use crate::pairs::Pairs;
 use crate::table::Table;
 use crate::usage::Arguments;
-use crate::{listing, plot, text};
-use sigxume::{bytes_of_words, Comparer, Tiling};
+use crate::{curves, listing, plot, text};
+use sigxume::{bytes_of_words, Comparer, Refusal, Tiling};
 use std::io::{self, IsTerminal};
 use std::num::NonZeroUsize;
 use std::thread;
@@ -60,11 +61,29 @@ fn one_pair(
     show: fn([&Fish; 2], u32, Tiling) -> String,
 ) -> Result<(), Failure> {
     let fish = read_all(arguments, Form::Either)?;
-    let pair = fish::pair(&fish, arguments.fish)?;
+    let pair = fish::pair(&fish, arguments.fish.first().copied())?;
     let mut comparer = Comparer::new();
     let [first, second] = pair.map(|fish| &fish.sequence);
     let tiling = comparer.compare(first, second, arguments.minimum)?;
     let text = show(pair, arguments.minimum, tiling);
+    output::write(arguments.output.as_deref(), text.as_bytes())
+}
+
+pub fn cover(arguments: Arguments) -> Result<(), Failure> {
+    let fish = read_all(&arguments, Form::Either)?;
+    let pairs = fish::pairs(&fish, &arguments.fish)?;
+    let mut comparer = Comparer::new();
+    let pairs = pairs
+        .into_iter()
+        .map(|pair| Covered::new(&mut comparer, pair));
+    let pairs = pairs.collect::<Result<Vec<_>, Refusal>>()?;
+    let text = if arguments.json {
+        cover::json(&pairs)
+    } else if arguments.plot {
+        curves::plot(&pairs)
+    } else {
+        cover::table(&pairs, arguments.all)
+    };
     output::write(arguments.output.as_deref(), text.as_bytes())
 }
 

@@ -18,6 +18,14 @@ impl Fish {
     }
 }
 
+/// The pairs that are compared: those named, or the one of all that there are.
+pub fn pairs<'a>(fish: &'a [Fish], named: &[[u16; 2]]) -> Result<Vec<[&'a Fish; 2]>, Failure> {
+    match named {
+        [] => Ok(vec![pair(fish, None)?]),
+        _ => named.iter().map(|ids| pair(fish, Some(*ids))).collect(),
+    }
+}
+
 /// The two that are compared: those named, or all that there are.
 pub fn pair(fish: &[Fish], named: Option<[u16; 2]>) -> Result<[&Fish; 2], Failure> {
     match (named, fish) {

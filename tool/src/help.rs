@@ -69,6 +69,7 @@ Subcommands
   decode   turns records into text
   compare  compares two fish: lists what they share, and the score
   plot     compares two fish: draws what they share, as an SVG picture
+  cover    compares two fish at every minimum: a table, or the curve of scores
   matrix   compares every two of many fish: a table of scores, as CSV
   help     shows help; 'sigxume help compare' is 'sigxume compare --help'
 
@@ -228,6 +229,59 @@ The picture
 Examples
   sigxume plot -m 1 -o fish.svg fish.txt
   sigxume plot -m 8 --fish 12,13 -o fish.svg fish.txt
+"
+);
+
+pub const COVER: &str = concat!(
+    "\
+Compares two fish at every minimum from 1 to 256: how much is covered, and the
+score. One comparison, at minimum 1, tells all of it.
+
+Usage: sigxume cover [--fish A,B]... [--all | --json | --plot] [-o FILE]
+                     FILE [FILE]
+
+",
+    shared!(pair),
+    "
+Options
+      --fish A,B      compare fish A with fish B; given several times, several
+                      pairs in this order
+      --all           a row of the table for every minimum
+      --json          JSON in place of the table
+      --plot          an SVG picture in place of the table
+",
+    shared!(output),
+    shared!(help),
+    "\n",
+    shared!(minimum),
+    "
+The table
+  CSV. For each pair a row at minimum 1, and one at every minimum where less is
+  covered than at the minimum before. Between two rows nothing changes:
+
+    first_fish,second_fish,minimum,covered,score
+    12,13,1,7,736
+    12,13,2,5,526
+    12,13,6,0,0
+
+  So from 2 to 5 the tiles cover 5 words, and from 6 on there are none.
+
+JSON
+  A line for each pair. fish, lengths: of the first and the second; covered,
+  score: 256 numbers each, the first at minimum 1 and the last at 256.
+
+The picture
+  A web browser shows it. The minimum runs from left to right, the score from
+  bottom to top, and each pair is a curve that falls in steps. The curves
+  differ in colour and in dashes; after twenty pairs these repeat. A browser
+  tells more where the mouse rests on a curve.
+
+",
+    shared!(status),
+    "
+Examples
+  sigxume cover fish.txt
+  sigxume cover --fish 12,13 --fish 12,14 --plot -o fish.svg fish.txt
 "
 );
 

@@ -5,6 +5,8 @@
 mod axis;
 mod chain;
 mod commands;
+mod cover;
+mod curves;
 mod failure;
 mod fish;
 mod help;
@@ -15,6 +17,7 @@ mod output;
 mod pairs;
 mod plot;
 mod progress;
+mod svg;
 mod table;
 mod text;
 mod usage;
@@ -32,11 +35,12 @@ struct Subcommand {
     run: fn(Arguments) -> Result<(), Failure>,
 }
 
-const SUBCOMMANDS: [Subcommand; 5] = [
+const SUBCOMMANDS: [Subcommand; 6] = [
     Subcommand {
         name: "encode",
         accepted: Accepted {
             options: &["output"],
+            repeated: &[],
             operands: 0..=usize::MAX,
         },
         help: help::ENCODE,
@@ -46,6 +50,7 @@ const SUBCOMMANDS: [Subcommand; 5] = [
         name: "decode",
         accepted: Accepted {
             options: &["output"],
+            repeated: &[],
             operands: 0..=usize::MAX,
         },
         help: help::DECODE,
@@ -55,6 +60,7 @@ const SUBCOMMANDS: [Subcommand; 5] = [
         name: "compare",
         accepted: Accepted {
             options: &["minimum", "fish", "json", "output"],
+            repeated: &[],
             operands: 1..=2,
         },
         help: help::COMPARE,
@@ -64,10 +70,21 @@ const SUBCOMMANDS: [Subcommand; 5] = [
         name: "plot",
         accepted: Accepted {
             options: &["minimum", "fish", "output"],
+            repeated: &[],
             operands: 1..=2,
         },
         help: help::PLOT,
         run: commands::plot,
+    },
+    Subcommand {
+        name: "cover",
+        accepted: Accepted {
+            options: &["fish", "all", "json", "plot", "output"],
+            repeated: &["fish"],
+            operands: 1..=2,
+        },
+        help: help::COVER,
+        run: commands::cover,
     },
     Subcommand {
         name: "matrix",
@@ -80,6 +97,7 @@ const SUBCOMMANDS: [Subcommand; 5] = [
                 "threads",
                 "output",
             ],
+            repeated: &[],
             operands: 1..=usize::MAX,
         },
         help: help::MATRIX,

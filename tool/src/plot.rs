@@ -1,9 +1,10 @@
 //! One pair's tiles as an SVG picture: the first sequence runs to the right, the second down, and each tile is
 //! a slanting line.
 
-use crate::axis::{counted, Axis};
+use crate::axis::Axis;
 use crate::chain;
 use crate::fish::Fish;
+use crate::svg::{counted, factor, Axes, Picture};
 use sigxume::{Tile, Tiling};
 use std::ops::Range;
 
@@ -14,21 +15,14 @@ const TOP: f64 = 140.0;
 const FREE: f64 = 28.0;
 const LEAST: f64 = 480.0;
 
-/// A band lies so far outside the plot and is so wide.
+/// A band lies so far outside the plot and is so wide; the numbers stand further outside.
 const OUTSIDE: f64 = 12.0;
 const BAND: f64 = 8.0;
+const NUMBERS: f64 = 18.0;
 
 // A moved tile is told apart by colour, by its lightness in grey print, and by its width.
 const STYLE: &str = "\
-text { font-family: sans-serif; font-size: 12px; fill: #222222; }
-.heading { font-size: 16px; font-weight: bold; }
-.middle { text-anchor: middle; }
-.end { text-anchor: end; }
-.faint { fill: #777777; }
-.paper { fill: #ffffff; }
 .band { fill: #eeeeee; }
-.grid { fill: none; stroke: #e2e2e2; }
-.frame { fill: none; stroke: #777777; }
 .kept { fill: #004488; stroke: #004488; stroke-linecap: round; }
 .moved { fill: #e07b00; stroke: #e07b00; stroke-linecap: round; }
 .cover { stroke: none; }
@@ -42,8 +36,15 @@ pub fn plot(fish: [&Fish; 2], minimum: u32, tiling: Tiling) -> String {
     let in_order = kept.iter().filter(|kept| **kept).count();
     let class = |kept: &bool| if *kept { "kept" } else { "moved" };
     let tiles = Vec::from_iter(tiling.tiles().zip(kept.iter().map(class)));
-    let axes = Axis::pair(fish);
-    let [across, down] = &axes;
+    let sequences = Axis::pair(fish);
+    let [across, down] = &sequences;
+    let axes = Axes {
+        corner: [LEFT, TOP],
+        across: across.side(),
+        down: down.side(),
+        baselines: [-NUMBERS, -38.0],
+        beside: NUMBERS,
+    };
 
     let heading = format!("Fish {} and fish {}", across.id, down.id);
     let facts = format!(
@@ -57,37 +58,29 @@ pub fn plot(fish: [&Fish; 2], minimum: u32, tiling: Tiling) -> String {
         format!("{} in order", counted(in_order, "tile")),
         format!("{} moved", counted(tiles.len() - in_order, "tile")),
     ];
-    [
-        opening(&axes, &heading, &format!("{facts}; {}", keys.join(", "))),
+    let picture = Picture {
+        width: (LEFT + across.length + FREE).max(LEAST),
+        height: TOP + down.length + FREE,
+        heading: &heading,
+        description: &format!(
+            "{facts}; {}. The first sequence runs from left to right and the second from top to bottom. Each tile \
+             is a slanting line from where it starts to where it ends in both.",
+            keys.join(", ")
+        ),
+        style: &(String::from(STYLE) + &widths(&sequences)),
+    };
+    let nothing = if tiles.is_empty() {
+        axes.nothing("no tiles")
+    } else {
+        String::new()
+    };
+    picture.with(&[
         legend(&heading, &facts, &keys),
-        grid(&axes),
-        bands(&axes, &tiles),
-        if tiles.is_empty() {
-            nothing(&axes)
-        } else {
-            String::new()
-        },
-        lines(&axes, &tiles),
-        "</svg>\n".into(),
-    ]
-    .concat()
-}
-
-fn opening(axes: &[Axis; 2], heading: &str, description: &str) -> String {
-    let [across, down] = axes;
-    let width = (LEFT + across.side + FREE).max(LEAST).ceil();
-    let height = (TOP + down.side + FREE).ceil();
-    let widths = widths(axes);
-    format!(
-        r#"<?xml version="1.0" encoding="UTF-8"?>
-<svg xmlns="http://www.w3.org/2000/svg" version="1.1" width="{width}" height="{height}" viewBox="0 0 {width} {height}" role="img" aria-labelledby="title description">
-<title id="title">{heading}</title>
-<desc id="description">{description}. The first sequence runs from left to right and the second from top to bottom. Each tile is a slanting line from where it starts to where it ends in both.</desc>
-<style type="text/css">
-{STYLE}{widths}</style>
-<rect class="paper" width="{width}" height="{height}"/>
-"#
-    )
+        axes.draw(),
+        bands(&sequences, &tiles),
+        nothing,
+        lines(&axes, &sequences, &tiles),
+    ])
 }
 
 /// The tiles are scaled but their lines' width is not to be. Where the viewer cannot leave it as it is, a width is
@@ -121,35 +114,6 @@ fn legend(heading: &str, facts: &str, [kept, moved]: &[String; 2]) -> String {
 <text x="236" y="72">{moved}</text>
 </g>
 "#
-    )
-}
-
-/// Frame, grid, ticks and titles.
-fn grid([across, down]: &[Axis; 2]) -> String {
-    let [right, bottom] = [across, down].map(|axis| place(axis.side));
-    let mut lines = String::new();
-    let mut labels = String::new();
-    for (position, far) in across.ticks() {
-        let x = place(far);
-        lines += &format!("M{x} 0V{bottom}");
-        labels += &format!("<text class=\"middle\" x=\"{x}\" y=\"-18\">{position}</text>\n");
-    }
-    for (position, far) in down.ticks() {
-        let [y, baseline] = [far, far + 4.0].map(place);
-        lines += &format!("M0 {y}H{right}");
-        labels += &format!("<text class=\"end\" x=\"-18\" y=\"{baseline}\">{position}</text>\n");
-    }
-    let [centre, middle] = [across, down].map(|axis| place(axis.side / 2.0));
-    format!(
-        r#"<g id="axes" transform="translate({LEFT} {TOP})">
-<path class="grid" d="{lines}"/>
-<rect class="frame" width="{right}" height="{bottom}"/>
-{labels}<text class="middle" x="{centre}" y="-38">{}</text>
-<text class="middle" transform="translate(-56 {middle}) rotate(-90)">{}</text>
-</g>
-"#,
-        across.title(),
-        down.title()
     )
 }
 
@@ -199,16 +163,10 @@ fn stretches<'a>(
     stretches
 }
 
-/// Said in the middle, so that an empty plot is not taken for a broken one.
-fn nothing([across, down]: &[Axis; 2]) -> String {
-    let [x, y] = [LEFT + across.side / 2.0, TOP + down.side / 2.0].map(place);
-    format!("<text class=\"middle faint\" x=\"{x}\" y=\"{y}\">no tiles</text>\n")
-}
-
-fn lines([across, down]: &[Axis; 2], tiles: &[(Tile, &str)]) -> String {
+fn lines(axes: &Axes, [across, down]: &[Axis; 2], tiles: &[(Tile, &str)]) -> String {
     let [x, y] = [across, down].map(|axis| factor(axis.scale()));
-    let mut text =
-        format!("<g id=\"tiles\" transform=\"translate({LEFT} {TOP}) scale({x} {y})\">\n");
+    let plot = axes.transform();
+    let mut text = format!("<g id=\"tiles\" transform=\"{plot} scale({x} {y})\">\n");
     for (tile, class) in tiles {
         let [x1, y1] = [tile.first, tile.second];
         let [x2, y2] = [x1, y1].map(|start| start + tile.length);
@@ -224,19 +182,4 @@ fn lines([across, down]: &[Axis; 2], tiles: &[(Tile, &str)]) -> String {
         );
     }
     text + "</g>\n"
-}
-
-/// A place in the picture.
-fn place(value: f64) -> String {
-    decimals(value, 2)
-}
-
-/// A factor of positions, so with more decimals.
-fn factor(value: f64) -> String {
-    decimals(value, 4)
-}
-
-fn decimals(value: f64, places: usize) -> String {
-    let text = format!("{value:.places$}");
-    text.trim_end_matches('0').trim_end_matches('.').into()
 }

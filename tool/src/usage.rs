@@ -13,8 +13,11 @@ use Takes::{Nothing, Value};
 pub struct Arguments {
     pub minimum: u32,
     pub output: Option<PathBuf>,
-    pub fish: Option<[u16; 2]>,
+    /// One pair at most, but where `--fish` may be repeated.
+    pub fish: Vec<[u16; 2]>,
+    pub all: bool,
     pub json: bool,
+    pub plot: bool,
     pub pairs: bool,
     pub part: Option<Part>,
     pub threads: Option<NonZeroUsize>,
@@ -30,9 +33,11 @@ pub struct Part {
     pub count: u64,
 }
 
-/// What a subcommand takes: its options by their long names, and how many operands.
+/// What a subcommand takes: its options by their long names, those of them that may be given again, and how many
+/// operands.
 pub struct Accepted {
     pub options: &'static [&'static str],
+    pub repeated: &'static [&'static str],
     pub operands: RangeInclusive<usize>,
 }
 
@@ -49,7 +54,7 @@ enum Takes {
     Value(&'static str, fn(&mut Arguments, &OsStr) -> Option<()>),
 }
 
-const TABLE: [Row; 9] = [
+const TABLE: [Row; 11] = [
     Row {
         long: "minimum",
         short: Some(b'm'),
@@ -72,14 +77,24 @@ const TABLE: [Row; 9] = [
         short: None,
         takes: Value("two fish's numbers, as in 12,13", |arguments, value| {
             let (first, second) = value.to_str()?.split_once(',')?;
-            arguments.fish = Some([number(first)?, number(second)?]);
+            arguments.fish.push([number(first)?, number(second)?]);
             Some(())
         }),
+    },
+    Row {
+        long: "all",
+        short: None,
+        takes: Nothing(|arguments| arguments.all = true),
     },
     Row {
         long: "json",
         short: None,
         takes: Nothing(|arguments| arguments.json = true),
+    },
+    Row {
+        long: "plot",
+        short: None,
+        takes: Nothing(|arguments| arguments.plot = true),
     },
     Row {
         long: "pairs",
@@ -116,6 +131,9 @@ const TABLE: [Row; 9] = [
     },
 ];
 
+/// Each of these chooses what is written, so one alone may be given.
+const FORMS: [&str; 3] = ["all", "json", "plot"];
+
 /// Digits only: Rust's own reading takes a sign too.
 fn number<T: FromStr>(text: &str) -> Option<T> {
     let digits = text.bytes().all(|byte| byte.is_ascii_digit());
@@ -143,7 +161,7 @@ pub fn parse(arguments: &[OsString], accepted: &Accepted) -> Result<Arguments, S
             .filter(|row| row.long == "help" || accepted.options.contains(&row.long))
             .find(|row| row.is(spelled))
             .ok_or_else(|| format!("unknown option {shown}"))?;
-        if given.contains(&row.long) {
+        if given.contains(&row.long) && !accepted.repeated.contains(&row.long) {
             return Err(format!("{shown} is given twice"));
         }
         given.push(row.long);
@@ -171,6 +189,10 @@ pub fn parse(arguments: &[OsString], accepted: &Accepted) -> Result<Arguments, S
     }
     if parsed.part.is_some() && !parsed.pairs {
         return Err("--part goes with --pairs only".into());
+    }
+    given.retain(|option| FORMS.contains(option));
+    if let [one, other, ..] = *given {
+        return Err(format!("--{one} does not go with --{other}"));
     }
     let [least, most] = [accepted.operands.start(), accepted.operands.end()];
     match parsed.operands.len() {

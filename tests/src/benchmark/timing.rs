@@ -3,10 +3,10 @@
 use super::{
     exponent, head, rounded, row, Column, Job, Promises, FAST, LITERAL, PAIR, PLAIN, START, WISE,
 };
-use crate::pairs::{calls, periodic, related, unrelated, Pair};
+use crate::pairs::{broken, calls, periodic, related, unrelated, Pair};
 use crate::random::Random;
 use crate::reference::MAX_WORDS;
-use crate::samples::{call, NO_CALL};
+use crate::samples::call;
 use crate::series;
 use std::time::{Duration, Instant};
 
@@ -109,13 +109,7 @@ pub fn jobs() -> Vec<Job> {
     let random = &mut Random::new(SEED);
     let whole = calls(random, MAX_WORDS, CODES);
     let one_code = vec![call(1); MAX_WORDS];
-    // Almost every pair of positions begins a long run, and none of them is much longer.
-    let mut broken = one_code.clone();
-    broken
-        .iter_mut()
-        .skip(127)
-        .step_by(128)
-        .for_each(|word| *word = NO_CALL);
+    let broken = broken(1, MAX_WORDS);
     let phases = [0, 3].map(|phase| periodic(MAX_WORDS, 7, phase));
     let mut jobs = vec![
         job("related", related(random, MAX_WORDS, CODES)),

@@ -4,10 +4,11 @@
 //! names: only the groups with one of them are then run.
 
 use sigxume_tests::comparisons::{self, laws, limits, mistakes, restarts, settings};
+use sigxume_tests::cover;
 use sigxume_tests::group::Group;
 use sigxume_tests::tool::{
-    bad_lines, bad_records, compare, json, matrix, matrix_bad, matrix_large, options, output, plot,
-    progress, round_trips, usage,
+    self, bad_lines, bad_records, compare, curves, json, matrix, matrix_bad, matrix_large, options,
+    output, plot, progress, round_trips, usage,
 };
 use sigxume_tests::{baselines, documents, hashes, known, library, program, records, stack, words};
 use std::process::ExitCode;
@@ -17,7 +18,7 @@ use std::thread;
 type Row = (&'static str, u64, fn(&mut Group));
 
 #[rustfmt::skip]
-const GROUPS: [Row; 86] = [
+const GROUPS: &[Row] = &[
     ("reference: known pairs", 1, known::pairs),
     ("reference: known windows", 2, known::windows),
     ("reference: worked example", 3, known::example),
@@ -69,6 +70,17 @@ const GROUPS: [Row; 86] = [
     ("restart: every length", 48, restarts::every_length),
     ("restart: a shorter block first", 49, restarts::shorter_first),
     ("restart: again and again", 50, restarts::in_a_row),
+    ("cover: known pairs", 101, cover::known),
+    ("cover: every small pair", 102, cover::small),
+    ("cover: random pairs", 103, cover::random),
+    ("cover: larger pairs", 104, cover::larger),
+    ("cover: known tiles", 105, cover::known_tiles),
+    ("cover: what buffers held", 106, cover::held),
+    ("cover: laws", 107, cover::laws::laws),
+    ("cover: sizes", 108, cover::limits::sizes),
+    ("cover: settings", 109, cover::limits::settings),
+    ("cover: unsound words", 110, cover::limits::unsound),
+    ("cover: order of refusals", 111, cover::limits::order),
     ("library: refusals", 75, library::refusals),
     ("library: C header", 82, library::header),
     ("library: symbols", 76, library::symbols),
@@ -76,8 +88,11 @@ const GROUPS: [Row; 86] = [
     ("library: records in a row", 78, library::rows),
     ("library: comparisons", 79, library::comparisons),
     ("library: one comparer", 80, library::comparer),
+    ("library: cover", 86, library::covers),
+    ("library: scores", 87, library::scores),
     ("library: hashes", 81, library::hashes),
     ("stack: engines", 83, stack::engines),
+    ("stack: cover", 112, stack::cover),
     ("stack: other functions", 84, stack::others),
     ("stack: pair program", 85, stack::pair_program),
     ("program: known pairs", 51, program::known),
@@ -96,6 +111,8 @@ const GROUPS: [Row; 86] = [
     ("tool: compare", 64, compare::compare),
     ("tool: JSON", 65, json::json),
     ("tool: plot", 66, plot::plot),
+    ("tool: cover", 88, tool::cover::cover),
+    ("tool: cover, picture", 89, curves::curves),
     ("tool: matrix", 67, matrix::matrix),
     ("tool: matrix, bad input", 68, matrix_bad::bad_input),
     ("tool: matrix, 64 records", 69, matrix_large::large),
@@ -109,7 +126,7 @@ const GROUPS: [Row; 86] = [
 fn main() -> ExitCode {
     let parts: Vec<String> = std::env::args().skip(1).collect();
     let wanted = |name: &str| parts.is_empty() || parts.iter().any(|part| name.contains(part));
-    let groups: Vec<Row> = GROUPS.into_iter().filter(|row| wanted(row.0)).collect();
+    let groups: Vec<Row> = GROUPS.iter().copied().filter(|row| wanted(row.0)).collect();
     if groups.is_empty() {
         eprintln!("no group's name has {parts:?}");
         return ExitCode::FAILURE;

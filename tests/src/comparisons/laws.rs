@@ -1,9 +1,9 @@
 //! Laws of the tiling, tested on the core's own answers; the reference's tiling has no part in it.
 
-use super::{both_orders, engines, listed, Sides};
+use super::{engines, listed};
 use crate::engine::Engine;
 use crate::group::Group;
-use crate::pairs::{any_pair, periodic, related, unrelated, Pair};
+use crate::pairs::{any_pair, both_orders, periodic, related, unrelated, Pair, Sides};
 use crate::reference::{covered, matches, score, Tile, MAX_WORDS};
 use crate::samples::call;
 use std::collections::HashMap;
@@ -110,11 +110,7 @@ fn hold_by(g: &mut Group, name: &str, [engine, other]: [Engine; 2], pair: Sides,
     }
     if n != m {
         let (exchanged, crossed) = listed(other, [second, first], minimum);
-        let back = crossed.iter().map(|tile| Tile {
-            first: tile.second,
-            second: tile.first,
-            length: tile.length,
-        });
+        let back = crossed.into_iter().map(Tile::exchanged);
         g.equal(
             format_args!("{name}: exchanging the sides exchanges the starts alone, by {other}"),
             (exchanged, back.collect()),

@@ -1,35 +1,36 @@
 //! Limits and refusals of a comparison: lengths, minimums, sizes of buffers, unsound words, and
 //! causes in combination.
 
-use super::{compare, expect, Problem, Sides};
-use crate::engine::Engine;
+use super::{compare, expect, Problem};
+use crate::engine::{wrong_starts, Engine, WRONG_BUCKETS};
 use crate::group::Group;
-use crate::pairs::distinct;
+use crate::pairs::{distinct, Sides};
 use crate::reference::{
-    Tile, BUCKETS, MAX_BUCKETS, MAX_MINIMUM, MAX_WORDS, MINIMUM, TILES, TOO_LONG, UNSOUND, WINDOW,
-    WORKSPACE,
+    Tile, BUCKETS, MAX_MINIMUM, MAX_WORDS, MINIMUM, TILES, TOO_LONG, UNSOUND, WINDOW, WORKSPACE,
 };
 use crate::samples::{
-    damages, due, fault_sets, faulty, rooms, sequence, unsound_word, with, NO_CALL,
+    damages, due, fault_sets, faulty_pair, rooms, sequence, some_room, unsound_word, with, NO_CALL,
 };
 use std::fmt::Arguments;
+
+/// Lengths of a sequence at the ends, past them and between.
+pub const LENGTHS: [usize; 9] = [
+    0,
+    1,
+    2,
+    20,
+    256,
+    MAX_WORDS - 1,
+    MAX_WORDS,
+    MAX_WORDS + 1,
+    5_000,
+];
 
 /// Lengths, minimums and buffer sizes.
 pub fn sizes(g: &mut Group) {
     let minimums = [0, 1, 2, 255, 256, 257, 1 << 16, u32::MAX];
-    let lengths = [
-        0,
-        1,
-        2,
-        20,
-        256,
-        MAX_WORDS - 1,
-        MAX_WORDS,
-        MAX_WORDS + 1,
-        5_000,
-    ];
-    for n in lengths {
-        for m in lengths {
+    for n in LENGTHS {
+        for m in LENGTHS {
             let pair = [&distinct(0, n)[..], &distinct(0, m)];
             for minimum in minimums {
                 let problem = Problem::new(pair, minimum);
@@ -94,14 +95,9 @@ pub fn full(g: &mut Group) {
     }
 }
 
-/// One unsound word at each position of either side.
-pub fn unsound(g: &mut Group) {
-    let refused = |g: &mut Group, case: Arguments, pair: Sides| {
-        let problem = Problem::new(pair, 1);
-        for engine in problem.engines(&mut g.random) {
-            problem.compare_by(g, case, engine, UNSOUND);
-        }
-    };
+/// Pairs that are to be refused: with one unsound word, at each position of either side, and with
+/// equal ones on both.
+pub fn each_unsound(g: &mut Group, refused: impl Fn(&mut Group, Arguments, Sides)) {
     for count in [1, 2, 20, MAX_WORDS] {
         let sound = sequence(&mut g.random, count);
         for other in [0, 1, 20, MAX_WORDS] {
@@ -126,6 +122,16 @@ pub fn unsound(g: &mut Group) {
         let case = format_args!("{bad:#x} {count} times on both sides");
         refused(g, case, [&vec![bad; count], &vec![bad; count]]);
     }
+}
+
+/// One unsound word at each position of either side.
+pub fn unsound(g: &mut Group) {
+    each_unsound(g, |g, case, pair| {
+        let problem = Problem::new(pair, 1);
+        for engine in problem.engines(&mut g.random) {
+            problem.compare_by(g, case, engine, UNSOUND);
+        }
+    });
     let sound = sequence(&mut g.random, 20);
     compare(g, format_args!("a sound pair"), [&sound, &sound], 1);
 }
@@ -137,17 +143,11 @@ pub fn order(g: &mut Group) {
     let numbers = [
         TOO_LONG, UNSOUND, MINIMUM, BUCKETS, WINDOW, WORKSPACE, TILES,
     ];
-    let sides = [[true, false], [false, true], [true, true]];
     for (faults, refusal) in fault_sets(numbers) {
         let [long, unsound, bad_minimum, bad_buckets, bad_start, no_workspace, no_tiles] = faults;
         for length in [2, 3, 20, 60].repeat(20) {
             let random = &mut g.random;
-            let (of_long, of_unsound) = (random.pick(&sides), random.pick(&sides));
-            let lengths = [length, 2 + random.below(60)];
-            let [first, second] = [0, 1].map(|i| {
-                let (long, unsound) = (long && of_long[i], unsound && of_unsound[i]);
-                faulty(random, lengths[i], long, unsound)
-            });
+            let [first, second] = faulty_pair(random, length, long, unsound);
             let pair = [&first[..], &second];
             // A minimum of 1 or 2 leaves each pair something to ask for.
             let right = 1 + random.below(2) as u32;
@@ -155,28 +155,19 @@ pub fn order(g: &mut Group) {
             let minimum = if bad_minimum { wrong } else { right };
             let asked = Problem::new(pair, right).needed();
             let short = [no_workspace, no_tiles];
-            let rooms = [0, 1].map(|i| {
-                if short[i] {
-                    random.pick(&[0, asked[i] / 2, asked[i] - 1])
-                } else {
-                    asked[i] + random.below(3)
-                }
-            });
+            let rooms = [0, 1].map(|i| some_room(random, asked[i], short[i]));
             let mut engine = Engine::any_fast(random, minimum, length);
             if let Engine::Fast(settings) = &mut engine {
                 if bad_buckets {
-                    settings.buckets =
-                        random.pick(&[0, MAX_BUCKETS + 1, MAX_BUCKETS + 2, 1 << 16, u32::MAX]);
+                    settings.buckets = random.pick(&WRONG_BUCKETS);
                 }
                 if bad_start {
-                    let long = MAX_WORDS as u32 + 1;
-                    let below = minimum.wrapping_sub(1);
-                    settings.start = random.pick(&[0, below, long, long + 1, 1 << 16, u32::MAX]);
+                    settings.start = random.pick(&wrong_starts(minimum));
                 }
             }
             let case = format_args!(
-                "{} and {} words, long {long} {of_long:?}, unsound {unsound} {of_unsound:?}, \
-                 minimum {minimum}, asked {asked:?}, rooms {rooms:?}",
+                "{} and {} words, long {long}, unsound {unsound}, minimum {minimum}, \
+                 asked {asked:?}, rooms {rooms:?}",
                 first.len(),
                 second.len(),
             );

@@ -1,11 +1,11 @@
 //! 01's "Where earlier builds went astray", a group for each mistake. Most pairs are built so that
 //! their tiles are known beforehand, apart from any tiling.
 
-use super::{compare, expect, listed, Problem, Sides};
+use super::{compare, expect, listed, Problem};
 use crate::engine::{Engine, BUCKETS};
 use crate::group::Group;
 use crate::known::Letters;
-use crate::pairs::{calls, distinct, shuffled, Pair};
+use crate::pairs::{calls, distinct, shuffled, Pair, Sides};
 use crate::random::Random;
 use crate::reference::{window_hashes, Tile, MAX_WORDS};
 use crate::samples::{call, NO_CALL};

@@ -2,10 +2,10 @@
 //! length, after shorter ones, and one after another. Where the reference does not tile a pair, it is
 //! built so that its tiles are known beforehand.
 
-use super::{Problem, Sides};
+use super::Problem;
 use crate::engine::Engine;
 use crate::group::Group;
-use crate::pairs::{distinct, periodic, shuffled};
+use crate::pairs::{blocks, distinct, periodic, Sides};
 use crate::random::Random;
 use crate::reference::{Tile, MAX_MINIMUM, MAX_WORDS};
 use crate::samples::NO_CALL;
@@ -83,29 +83,6 @@ pub fn shorter_first(g: &mut Group) {
             problem.compare_by(g, case, engine, 0);
         }
     }
-}
-
-/// Blocks of these lengths in this order on the pattern, in any order on the text; their tiles.
-fn blocks(random: &mut Random, lengths: &[usize]) -> ([Vec<u32>; 2], Vec<Tile>) {
-    let separated: Vec<Vec<u32>> = lengths
-        .iter()
-        .enumerate()
-        .map(|(i, &length)| [&distinct(i * MAX_WORDS, length)[..], &[NO_CALL]].concat())
-        .collect();
-    let order = shuffled(random, lengths.len());
-    let start = |order: &[usize], i: usize| -> usize {
-        let before = order.iter().take_while(|&&other| other != i);
-        before.map(|&other| lengths[other] + 1).sum()
-    };
-    let straight: Vec<usize> = (0..lengths.len()).collect();
-    let mut tiles: Vec<Tile> = straight
-        .iter()
-        .map(|&i| [start(&straight, i), start(&order, i), lengths[i]].into())
-        .collect();
-    // The longest first; the sort leaves equal ones in the order of the pattern.
-    tiles.sort_by_key(|tile| std::cmp::Reverse(tile.length));
-    let text: Vec<&[u32]> = order.iter().map(|&i| &separated[i][..]).collect();
-    ([separated.concat(), text.concat()], tiles)
 }
 
 /// Blocks that grow, so that a search that has begun again meets a longer one still: each more than

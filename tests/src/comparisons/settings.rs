@@ -1,11 +1,14 @@
 //! Settings of the fast engine: each with each, those that are refused included, on pairs that make
 //! the search hard. The tiles never depend on them.
 
-use super::{both_orders, every_fast, listed, pattern_words, Problem};
-use crate::engine::{Engine, BUCKETS, MULTIPLIERS};
+use super::{every_fast, listed, Problem};
+use crate::engine::{Engine, BUCKETS, MULTIPLIERS, WRONG_BUCKETS};
 use crate::group::Group;
 use crate::known::letters;
-use crate::pairs::{any_pair, calls, distinct, periodic, related, unrelated, Pair};
+use crate::pairs::{
+    any_pair, both_orders, broken, calls, distinct, pattern_words, periodic, related, unrelated,
+    Pair,
+};
 use crate::reference::{self, Tile, MAX_BUCKETS, MAX_MINIMUM, MAX_WORDS, MINIMUM, WINDOW};
 use crate::samples::{call, due, NO_CALL};
 
@@ -41,8 +44,7 @@ pub fn each(g: &mut Group) {
                 starts.dedup();
                 let multipliers = MULTIPLIERS.into_iter().chain([g.random.word()]);
                 for multiplier in multipliers {
-                    let others = [0, MAX_BUCKETS + 1, 1 << 16, u32::MAX];
-                    for buckets in BUCKETS.into_iter().chain(others) {
+                    for buckets in BUCKETS.into_iter().chain(WRONG_BUCKETS) {
                         for &start in &starts {
                             let refusal = due([
                                 (minimum == 0 || minimum > MAX_MINIMUM, MINIMUM),
@@ -152,12 +154,6 @@ pub fn both_engines(g: &mut Group) {
     let random = &mut g.random;
     let whole = calls(random, MAX_WORDS, 40);
     let one_code = vec![call(1); MAX_WORDS];
-    let mut broken = one_code.clone();
-    broken
-        .iter_mut()
-        .skip(127)
-        .step_by(128)
-        .for_each(|word| *word = NO_CALL);
     let pairs: Vec<(&str, Pair, u32)> = vec![
         ("related", related(random, MAX_WORDS, 40), 8),
         ("related", related(random, MAX_WORDS, 40), 1),
@@ -166,7 +162,7 @@ pub fn both_engines(g: &mut Group) {
         ("unrelated, few codes", unrelated(random, 1_500, 3), 9),
         ("identical", [whole.clone(), whole], 1),
         ("one code", [one_code.clone(), one_code.clone()], 1),
-        ("one code, broken", [one_code, broken], 20),
+        ("one code, broken", [one_code, broken(1, MAX_WORDS)], 20),
         (
             "period 7",
             [periodic(MAX_WORDS, 7, 0), periodic(1_999, 7, 3)],

@@ -165,6 +165,8 @@ fn bad(g: &mut Group, tool: &Tool) {
         &["compare", "-m", "1", "missing", "good"][..],
         &["compare", "-m", "1", "good", "missing"],
         &["plot", "-m", "1", "good", "missing"],
+        &["cover", "missing", "good"],
+        &["cover", "--plot", "good", "missing"],
         &["encode", "missing"],
         &["decode", "good", "missing"],
     ] {
@@ -175,6 +177,8 @@ fn bad(g: &mut Group, tool: &Tool) {
     for args in [
         &["compare", "-m", "1", "folder"][..],
         &["plot", "-m", "1", "good", "folder"],
+        &["cover", "folder"],
+        &["cover", "--json", "good", "folder"],
         &["encode", "folder"],
         &["decode", "good", "folder"],
     ] {

@@ -10,14 +10,9 @@ use super::Tool;
 use crate::group::Group;
 use crate::reference::MINIMUM;
 
-/// Reads a JSON text from each line and prints its values in a form of its own; a key that is missing, out
-/// of order or there twice shows.
+/// Prints the values of each text in a form of its own.
 const SCRIPT: &str = r#"
-import json
-def keys(pairs):
-    return ' '.join(key for key, _ in pairs), dict(pairs)
-for line in open('texts'):
-    names, d = json.loads(line, object_pairs_hook=keys)
+for names, d in texts():
     assert all(type(n) is int for n in d['fish'] + d['lengths'] + [d['minimum'], d['covered'], d['score']])
     print(names, *d['fish'], d['minimum'], *d['lengths'], d['covered'], d['score'], sep='|')
     for names, tile in d['tiles']:
@@ -72,8 +67,7 @@ pub fn json(g: &mut Group) {
             tool.expect_written(g, case, &args, &input, made.as_bytes());
         }
     }
-    tool.put("texts", &printed);
-    let read = python::run(SCRIPT, tool.folder());
+    let read = python::read_texts(SCRIPT, &tool, &printed);
     let difference = read.map(|read| differing(read.as_bytes(), expected.as_bytes()));
     g.equal(format_args!("read by Python"), difference, Ok(None));
     let example =

@@ -3,7 +3,7 @@
 use super::expected::Expected;
 use super::fish::{records, text, Fish};
 use super::matrix::related_fish;
-use super::results::{Compared, Matrix};
+use super::results::{Compared, Covers, Matrix, COVERS};
 use super::Tool;
 use crate::group::Group;
 use std::ffi::OsStr;
@@ -40,6 +40,22 @@ pub fn options(g: &mut Group) {
     same(g, &tool, &compared.json(), &[
         &["compare", "-m", "2", "--fish", "8,7", "a", "--json"], &["compare", "--json", "-m2", "--fish=8,7", "--", "--json"],
         &["compare", "a", "--json", "--fish=8,7", "--minimum", "2"],
+    ]);
+    let [first, second] = [[1, 0], [2, 3]].map(|[a, b]| Covers::new(&all[a], &all[b]));
+    #[rustfmt::skip]
+    same(g, &tool, &first.table(), &[
+        &["cover", "--fish", "8,7", "a"], &["cover", "a", "--fish=8,7"], &["cover", "--fish=8,7", "--", "-a"],
+        &["cover", "--fish", "8,7", "--", "--json"], &["cover", "./-", "--fish", "8,7", "-o", "-"],
+    ]);
+    #[rustfmt::skip]
+    same(g, &tool, &(COVERS.to_string() + &first.rows(true) + &second.rows(true)), &[
+        &["cover", "--all", "--fish", "8,7", "--fish", "9,10", "a"], &["cover", "--fish=8,7", "a", "--fish=9,10", "--all"],
+        &["cover", "a", "--fish=8,7", "--all", "--fish", "9,10"],
+    ]);
+    #[rustfmt::skip]
+    same(g, &tool, &(second.json() + &first.json() + &second.json()), &[
+        &["cover", "--fish", "9,10", "--fish", "8,7", "--fish", "9,10", "--json", "a"],
+        &["cover", "--json", "a", "--fish=9,10", "--fish=8,7", "--fish=9,10"],
     ]);
     let matrix = Matrix::new(&all, 3);
     #[rustfmt::skip]

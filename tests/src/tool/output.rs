@@ -10,12 +10,15 @@ use std::fs::File;
 use std::process::Stdio;
 
 /// Each subcommand with an output.
-const COMMANDS: [&[&str]; 6] = [
+const COMMANDS: [&[&str]; 9] = [
     &["encode", "fish.txt"],
     &["decode", "fish"],
     &["compare", "-m", "1", "fish"],
     &["compare", "-m", "1", "--json", "fish"],
     &["plot", "-m", "1", "fish"],
+    &["cover", "fish"],
+    &["cover", "--json", "fish"],
+    &["cover", "--plot", "fish"],
     &["matrix", "-m", "1", "fish"],
 ];
 

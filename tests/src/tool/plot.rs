@@ -6,7 +6,7 @@ use super::faults::refusal;
 use super::fish::{records, text, Fish};
 use super::results::Compared;
 use super::Tool;
-use super::{picture, python};
+use super::{picture, svg};
 use crate::group::Group;
 use crate::known;
 use crate::pairs::distinct;
@@ -64,13 +64,7 @@ pub fn plot(g: &mut Group) {
             tool.expect_written(g, case, &args, &text(pair), &picture);
         }
     }
-    tool.put("count", pairs.len().to_string());
-    let read = python::run(picture::SCRIPT, tool.folder());
-    let error = read.as_ref().err().cloned();
-    g.equal(format_args!("read by Python"), error, None);
-    let read = read.unwrap_or_default();
-    let parts: Vec<&str> = read.split("picture ").skip(1).collect();
-    g.equal(format_args!("pictures"), parts.len(), pairs.len());
+    let parts = svg::read(g, &tool, pairs.len(), picture::SCRIPT);
     for (number, (part, (pair, minimum))) in parts.iter().zip(&pairs).enumerate() {
         let compared = Compared::new(&pair[0], &pair[1], *minimum);
         picture::check(g, format_args!("pair {number}"), part, &compared);

@@ -1,7 +1,7 @@
-//! What the tool must print of comparisons: a listing, a JSON text, tables.
+//! What the tool must print of comparisons: listings, JSON texts, tables.
 
 use super::fish::Fish;
-use crate::reference::{self, covered, score, tiling, Tile};
+use crate::reference::{self, covered, score, tiling, Curve, Tile, COVER_WORDS};
 use crate::wise;
 
 /// The most words of a sequence that is compared by the literal tiling.
@@ -76,6 +76,67 @@ fn json_tile(tile: &Tile) -> String {
         tile.length,
         tile.second as i64 - tile.first as i64
     )
+}
+
+/// Two fish and what is covered of them at each minimum from 1 to 256.
+pub struct Covers {
+    pub ids: [u16; 2],
+    pub lengths: [usize; 2],
+    pub covered: [usize; COVER_WORDS],
+    pub scores: [usize; COVER_WORDS],
+}
+
+/// The table of covers begins with this line.
+pub const COVERS: &str = "first_fish,second_fish,minimum,covered,score\n";
+
+impl Covers {
+    /// By a comparison of its own for each minimum.
+    pub fn new(first: &Fish, second: &Fish) -> Self {
+        let lengths = [first, second].map(|fish| fish.words.len());
+        let curve = Curve::of(|minimum| Compared::new(first, second, minimum as u32).tiles);
+        let covered = curve.covered.map(|covered| covered as usize);
+        Self {
+            ids: [first.id, second.id],
+            lengths,
+            covered,
+            scores: covered.map(|covered| score(covered, lengths[0], lengths[1])),
+        }
+    }
+
+    /// The rows of the table: of every minimum, or of 1 and those at which the count is another than just before.
+    pub fn rows(&self, all: bool) -> String {
+        let [a, b] = self.ids;
+        let mut rows = String::new();
+        for (at, (covered, score)) in self.covered.iter().zip(&self.scores).enumerate() {
+            if all || at == 0 || *covered != self.covered[at - 1] {
+                rows += &format!("{a},{b},{},{covered},{score}\n", at + 1);
+            }
+        }
+        rows
+    }
+
+    /// The table of this pair alone.
+    pub fn table(&self) -> String {
+        COVERS.to_string() + &self.rows(false)
+    }
+
+    /// The JSON text, in one line.
+    pub fn json(&self) -> String {
+        let ([a, b], [n, m]) = (self.ids, self.lengths);
+        let [covered, scores] = [&self.covered, &self.scores].map(|numbers| {
+            let numbers: Vec<String> = numbers.iter().map(usize::to_string).collect();
+            numbers.join(",")
+        });
+        format!(
+            "{{\"fish\":[{a},{b}],\"lengths\":[{n},{m}],\"covered\":[{covered}],\"score\":[{scores}]}}\n"
+        )
+    }
+
+    /// The greatest minimum at which anything is covered; 0 where there is none.
+    pub fn last(&self) -> usize {
+        let last = self.covered.iter().rposition(|covered| *covered > 0);
+        last.map_or(0, |at| at + 1)
+    }
 }
 
 /// One pair of a matrix: tiles, covered, score.

@@ -8,7 +8,7 @@ use crate::group::Group;
 use crate::process::lossy;
 
 /// Each subcommand with its options.
-const OPTIONS: [(&str, &[&str]); 5] = [
+const OPTIONS: [(&str, &[&str]); 6] = [
     ("encode", &["-o", "--output", "-h", "--help"]),
     ("decode", &["-o", "--output", "-h", "--help"]),
     (
@@ -34,6 +34,12 @@ const OPTIONS: [(&str, &[&str]); 5] = [
             "--output",
             "-h",
             "--help",
+        ],
+    ),
+    (
+        "cover",
+        &[
+            "--fish", "--all", "--json", "--plot", "-o", "--output", "-h", "--help",
         ],
     ),
     (
@@ -76,13 +82,13 @@ const PARTS: [&str; 14] = [
 
 /// Other arguments, with the subcommand whose help they should hint at.
 #[rustfmt::skip]
-const ROWS: [(&str, &[&str]); 67] = [
+const ROWS: &[(&str, &[&str])] = &[
     ("", &[]), ("", &["nonsense"]), ("", &[""]), ("", &["--nonsense"]), ("", &["-x"]), ("", &["Encode"]),
     ("", &["encoder"]), ("", &["-"]), ("", &["a"]),
     ("encode", &["encode", "-x"]), ("encode", &["encode", "--nonsense"]), ("encode", &["encode", "-m", "1"]),
     ("encode", &["encode", "a", "-o"]), ("encode", &["encode", "a", "--output"]),
     ("encode", &["encode", "a", "-o", "x", "-o", "y"]), ("encode", &["encode", "-ox", "a", "--output=x"]),
-    ("encode", &["encode", "--json", "a"]), ("encode", &["encode", "--help=x"]), ("encode", &["encode", "--out", "x"]),
+    ("encode", &["encode", "--all", "a"]), ("encode", &["encode", "--json", "a"]), ("encode", &["encode", "--help=x"]), ("encode", &["encode", "--out", "x"]),
     ("decode", &["decode", "-x"]), ("decode", &["decode", "--nonsense"]), ("decode", &["decode", "--minimum=1", "a"]),
     ("decode", &["decode", "a", "-o"]), ("decode", &["decode", "-o", "x", "a", "-o", "x"]),
     ("decode", &["decode", "--pairs", "a"]), ("decode", &["decode", "-k", "a"]),
@@ -95,10 +101,22 @@ const ROWS: [(&str, &[&str]); 67] = [
     ("compare", &["compare", "-m", "1", "a", "--fish=1,2", "--fish", "1,2"]),
     ("compare", &["compare", "-m", "1", "a", "-o", "x", "--output", "x"]), ("compare", &["compare", "--", "-m", "1"]),
     ("compare", &["compare", "-m", "1", "missing", "missing", "missing"]),
+    ("compare", &["compare", "-m", "1", "a", "--all"]), ("compare", &["compare", "-m", "1", "a", "--plot"]),
     ("plot", &["plot"]), ("plot", &["plot", "-m", "1"]), ("plot", &["plot", "-m", "1", "a", "a", "a"]),
     ("plot", &["plot", "-m", "1", "a", "--json"]), ("plot", &["plot", "-m", "1", "a", "--pairs"]),
     ("plot", &["plot", "-m", "1", "a", "--fish"]), ("plot", &["plot", "-m", "1", "a", "-x"]),
     ("plot", &["plot", "-m", "1", "a", "--fish", "1,2", "--fish", "1,2"]),
+    ("plot", &["plot", "-m", "1", "a", "--all"]), ("plot", &["plot", "-m", "1", "a", "--plot"]),
+    ("cover", &["cover"]), ("cover", &["cover", "--"]), ("cover", &["cover", "a", "a", "a"]), ("cover", &["cover", "--all"]),
+    ("cover", &["cover", "a", "-x"]), ("cover", &["cover", "a", "--nonsense"]), ("cover", &["cover", "a", "-m", "1"]),
+    ("cover", &["cover", "-m1", "a"]), ("cover", &["cover", "a", "--minimum=1"]), ("cover", &["cover", "a", "--pairs"]),
+    ("cover", &["cover", "a", "-k"]), ("cover", &["cover", "a", "--threads", "1"]), ("cover", &["cover", "a", "--part", "1/1"]),
+    ("cover", &["cover", "a", "--fish"]), ("cover", &["cover", "a", "--fish", "1,2", "--fish"]),
+    ("cover", &["cover", "a", "--all=1"]), ("cover", &["cover", "a", "--json=1"]), ("cover", &["cover", "a", "--plot=1"]),
+    ("cover", &["cover", "a", "--all", "--all"]), ("cover", &["cover", "a", "--json", "--json"]),
+    ("cover", &["cover", "a", "--plot", "--plot"]), ("cover", &["cover", "a", "-o"]),
+    ("cover", &["cover", "a", "-o", "x", "--output", "x"]), ("cover", &["cover", "a", "--all", "--json", "--plot"]),
+    ("matrix", &["matrix", "-m", "1", "a", "--all"]), ("matrix", &["matrix", "-m", "1", "a", "--plot"]),
     ("matrix", &["matrix"]), ("matrix", &["matrix", "-m", "1"]), ("matrix", &["matrix", "-m", "1", "a", "-x"]),
     ("matrix", &["matrix", "-m", "1", "a", "--json"]), ("matrix", &["matrix", "-m", "1", "a", "--fish", "1,2"]),
     ("matrix", &["matrix", "-m", "1", "a", "--pairs=1"]), ("matrix", &["matrix", "-m", "1", "a", "--keep-going=1"]),
@@ -110,8 +128,27 @@ const ROWS: [(&str, &[&str]); 67] = [
     ("matrix", &["matrix", "-m", "1", "a", "-o"]),
 ];
 
+/// Arguments that are refused with these words.
+#[rustfmt::skip]
+const MESSAGES: [(&str, &[&str]); 9] = [
+    ("--all does not go with --json", &["cover", "a", "--all", "--json"]),
+    ("--json does not go with --all", &["cover", "--json", "--all", "a"]),
+    ("--all does not go with --plot", &["cover", "--all", "a", "--plot"]),
+    ("--plot does not go with --all", &["cover", "--plot", "--fish=1,2", "--all", "a"]),
+    ("--json does not go with --plot", &["cover", "a", "--fish=1,2", "--json", "--plot", "--fish=1,2"]),
+    ("--plot does not go with --json", &["cover", "a", "--plot", "--json"]),
+    ("--part goes with --pairs only", &["matrix", "-m", "1", "a", "--part", "1/2"]),
+    ("--fish is given twice", &["compare", "-m", "1", "a", "--fish", "1,2", "--fish", "3,4"]),
+    ("--fish is given twice", &["plot", "-m", "1", "a", "--fish", "1,2", "--fish=3,4"]),
+];
+
 /// The tool must call these arguments bad usage, and hint at a subcommand's help.
 fn refused(g: &mut Group, tool: &Tool, hint: &str, args: &[&str]) {
+    refused_with(g, tool, Line::Begins("sigxume: ".into()), hint, args);
+}
+
+/// The same with a line of its own.
+fn refused_with(g: &mut Group, tool: &Tool, line: Line, hint: &str, args: &[&str]) {
     let hint = match hint {
         "" => "Try 'sigxume --help'.".into(),
         name => format!("Try 'sigxume {name} --help'."),
@@ -119,7 +156,7 @@ fn refused(g: &mut Group, tool: &Tool, hint: &str, args: &[&str]) {
     let expected = Expected {
         status: 2,
         stdout: Vec::new(),
-        stderr: vec![Line::Begins("sigxume: ".into()), Line::Is(hint)],
+        stderr: vec![line, Line::Is(hint)],
     };
     let names = tool.names();
     tool.expect(g, format_args!("bad usage"), args, b"12 1\n", &expected);
@@ -131,16 +168,26 @@ fn bad(g: &mut Group, tool: &Tool) {
     for (hint, args) in ROWS {
         refused(g, tool, hint, args);
     }
+    for (words, args) in MESSAGES {
+        let line = Line::Is(format!("sigxume: {words}"));
+        refused_with(g, tool, line, args[0], args);
+    }
     for name in ["compare", "plot", "matrix"] {
         for rest in MINIMUMS {
             refused(g, tool, name, &[&[name], rest].concat());
         }
     }
-    for name in ["compare", "plot"] {
+    let starts: [&[&str]; 4] = [
+        &["compare", "-m", "1", "a"],
+        &["plot", "-m", "1", "a"],
+        &["cover", "a"],
+        &["cover", "a", "--fish", "1,2"],
+    ];
+    for start in starts {
         for value in FISH {
-            refused(g, tool, name, &[name, "-m", "1", "a", "--fish", value]);
+            refused(g, tool, start[0], &[start, &["--fish", value]].concat());
             let joined = format!("--fish={value}");
-            refused(g, tool, name, &[name, "-m", "1", "a", &joined]);
+            refused(g, tool, start[0], &[start, &[&joined]].concat());
         }
     }
     let start = ["matrix", "-m", "1", "a"];
