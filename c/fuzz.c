@@ -28,7 +28,7 @@ static void fail(const char *what, int line)
 }
 
 /* What an input asks for. */
-enum { WORDS, READ, READ_ALL, WRITE, HASHES, COMPARE, PAIR, KINDS };
+enum { WORDS, READ, READ_ALL, WRITE, HASHES, COMPARE, PAIR, COVER, KINDS };
 
 enum {
     PLAN = 24,
@@ -53,7 +53,7 @@ struct plan {
 };
 
 /* What the fuzzer is told of the answers: it keeps inputs that show something new. */
-enum { SAW_CAUSES, SAW_REFUSAL, SAW_TILES, SAW_LONGEST, SAW_SCORE, SAW_COVERED, SAW_READ, SAW_ALL, SAW_HASHES, SIGHTS };
+enum { SAW_CAUSES, SAW_REFUSAL, SAW_TILES, SAW_LONGEST, SAW_SCORE, SAW_COVERED, SAW_READ, SAW_ALL, SAW_HASHES, SAW_CURVE, SIGHTS };
 
 __attribute__((section("__libfuzzer_extra_counters"))) static uint8_t counters[SIGHTS * 64 * 32];
 
@@ -81,7 +81,7 @@ struct slice {
 };
 
 /* Lots of writable words between inaccessible pages, one for each slice of a call. */
-enum { FIRST, SECOND, WORKSPACE, TILES, LOTS };
+enum { FIRST, SECOND, WORKSPACE, TILES, CURVE, LOTS };
 static struct {
     uint32_t *low, *high;
     uint32_t held[LOT];
@@ -239,6 +239,22 @@ static uint32_t compare_refusal(
     return FIRST_OF(plan, causes);
 }
 
+static uint32_t cover_refusal(
+    const struct plan *plan, const uint32_t *first, size_t n, const uint32_t *second, size_t m, size_t workspace, size_t tiles,
+    size_t cover)
+{
+    struct cause causes[] = {
+        {1, n > 2048 || m > 2048},
+        {2, !sound(first, n) || !sound(second, m)},
+        {4, plan->buckets < 1 || plan->buckets > 1024},
+        {5, plan->start < 1 || plan->start > 2048},
+        {6, workspace < 4 * (n + m)},
+        {7, tiles < 3 * (n < m ? n : m)},
+        {11, cover < 256},
+    };
+    return FIRST_OF(plan, causes);
+}
+
 static size_t room_of(size_t asked, unsigned choice)
 {
     switch (choice % 4) {
@@ -249,7 +265,19 @@ static size_t room_of(size_t asked, unsigned choice)
     }
 }
 
-/* Words: match and soundness. */
+/* The score of any numbers: score * words is at most 2,000 * covered, and with one score more it would not be. */
+static void try_score(uint32_t covered, size_t words)
+{
+    uint64_t whole = (uint64_t)2000 * covered, score = sigxume_score(covered, words);
+    if (words == 0)
+        MUST(score == 0);
+    else if (score == UINT32_MAX)
+        MUST(words <= whole / UINT32_MAX);
+    else
+        MUST(score <= whole / words && whole - score * words < words);
+}
+
+/* Words: match and soundness, and the score of any numbers. */
 static void try_words(const struct plan *plan, const uint32_t *words, size_t len)
 {
     struct slice s = lend(FIRST, words, len, plan->null);
@@ -261,6 +289,9 @@ static void try_words(const struct plan *plan, const uint32_t *words, size_t len
         MUST(sigxume_match(words[i], next) == match(words[i], next));
         MUST(sigxume_match(words[i], words[i] ^ plan->multiplier) == match(words[i], words[i] ^ plan->multiplier));
     }
+    try_score(plan->multiplier, 0);
+    try_score(plan->multiplier, (size_t)plan->buckets << plan->start % 33);
+    try_score(plan->multiplier % 2049, plan->buckets % 4097);
 }
 
 /* Writes a record that must be the given one. */
@@ -482,35 +513,55 @@ static void must_be_tiled(
         must_be_the_tiling(first, n, second, m, minimum, tiles, answer.tiles);
 }
 
+/* What is lent for a comparison: both sequences, workspace and tile buffer. */
+struct lent {
+    struct slice a, b, w, t;
+};
+
+static struct lent lend_pair(
+    const struct plan *plan, const uint32_t *first, size_t n, const uint32_t *second, size_t m, uint32_t minimum)
+{
+    struct lent s;
+    s.a = lend(FIRST, first, n, plan->null);
+    s.b = first == second && n == m ? s.a : lend(SECOND, second, m, plan->null);
+    s.w = lend(WORKSPACE, NULL, room_of(sigxume_workspace_words(n, m), plan->room[0]), plan->null);
+    s.t = lend(TILES, NULL, room_of(sigxume_tile_words(n, m, minimum), plan->room[1]), plan->null);
+    return s;
+}
+
+/* What was lent is as the answer says. The tiles are copied to laid. */
+static void must_leave(struct lent s, sigxume_compared answer, uint32_t *laid)
+{
+    must_keep(s.a, 0);
+    must_keep(s.b, 0);
+    if (answer.refusal != 0) {
+        MUST(answer.tiles == 0 && answer.covered == 0 && answer.score == 0);
+        must_keep(s.w, 0);
+        must_keep(s.t, 0);
+        return;
+    }
+    for (size_t i = 0; i < s.w.len; i++)
+        MUST(s.w.at[i] == 0);
+    must_keep(s.w, s.w.len);
+    MUST(answer.tiles <= s.t.len / 3);
+    must_keep(s.t, 3 * (size_t)answer.tiles);
+    if (answer.tiles != 0)
+        memcpy(laid, s.t.at, 3 * (size_t)answer.tiles * sizeof *laid);
+}
+
 /* Compares by one engine. Its tiles are copied to laid. */
 static sigxume_compared try_engine(
     const struct plan *plan, bool fast, const uint32_t *first, size_t n, const uint32_t *second, size_t m, uint32_t *laid)
 {
-    struct slice a = lend(FIRST, first, n, plan->null);
-    struct slice b = first == second && n == m ? a : lend(SECOND, second, m, plan->null);
-    struct slice w = lend(WORKSPACE, NULL, room_of(sigxume_workspace_words(n, m), plan->room[0]), plan->null);
-    struct slice t = lend(TILES, NULL, room_of(sigxume_tile_words(n, m, plan->minimum), plan->room[1]), plan->null);
+    struct lent s = lend_pair(plan, first, n, second, m, plan->minimum);
     sigxume_compared answer =
         fast ? sigxume_compare_fast(
-                   a.at, a.len, b.at, b.len, plan->minimum, plan->multiplier, plan->buckets, plan->start, w.at, w.len, t.at, t.len)
-             : sigxume_compare_plain(a.at, a.len, b.at, b.len, plan->minimum, w.at, w.len, t.at, t.len);
-    MUST(answer.refusal == compare_refusal(plan, fast, first, n, second, m, w.len, t.len));
-    must_keep(a, 0);
-    must_keep(b, 0);
+                   s.a.at, s.a.len, s.b.at, s.b.len, plan->minimum, plan->multiplier, plan->buckets, plan->start, s.w.at,
+                   s.w.len, s.t.at, s.t.len)
+             : sigxume_compare_plain(s.a.at, s.a.len, s.b.at, s.b.len, plan->minimum, s.w.at, s.w.len, s.t.at, s.t.len);
+    MUST(answer.refusal == compare_refusal(plan, fast, first, n, second, m, s.w.len, s.t.len));
     saw(SAW_REFUSAL, plan->kind + (fast ? 16 : 0), answer.refusal);
-    if (answer.refusal != 0) {
-        MUST(answer.tiles == 0 && answer.covered == 0 && answer.score == 0);
-        must_keep(w, 0);
-        must_keep(t, 0);
-        return answer;
-    }
-    for (size_t i = 0; i < w.len; i++)
-        MUST(w.at[i] == 0);
-    must_keep(w, w.len);
-    MUST(answer.tiles <= t.len / 3);
-    must_keep(t, 3 * (size_t)answer.tiles);
-    if (answer.tiles != 0)
-        memcpy(laid, t.at, 3 * (size_t)answer.tiles * sizeof *laid);
+    must_leave(s, answer, laid);
     return answer;
 }
 
@@ -549,6 +600,101 @@ static void try_compare(const struct plan *plan, const uint32_t *first, size_t n
             sigxume_tile a = sigxume_tile_at(fast_tiles, i), b = sigxume_tile_at(other_tiles, i);
             MUST(a.first == b.second && a.second == b.first && a.length == b.length);
         }
+    }
+}
+
+/* The plan with the settings that serve well at a minimum. */
+static struct plan served_well(struct plan plan, uint32_t minimum)
+{
+    plan.minimum = minimum;
+    plan.multiplier = SIGXUME_MULTIPLIER;
+    plan.buckets = SIGXUME_BUCKETS;
+    plan.start = sigxume_start(minimum);
+    return plan;
+}
+
+/* Covers with the plan's settings, or with those that serve well. Tiles and cover are copied to laid and curve. */
+static sigxume_compared try_settings(
+    const struct plan *plan, bool well, const uint32_t *first, size_t n, const uint32_t *second, size_t m, uint32_t *laid,
+    uint32_t *curve)
+{
+    struct plan used = well ? served_well(*plan, 1) : *plan;
+    struct lent s = lend_pair(plan, first, n, second, m, 1);
+    struct slice c = lend(CURVE, NULL, room_of(SIGXUME_COVER_WORDS, plan->room[2]), plan->null);
+    sigxume_compared answer =
+        well ? sigxume_cover(s.a.at, s.a.len, s.b.at, s.b.len, s.w.at, s.w.len, s.t.at, s.t.len, c.at, c.len)
+             : sigxume_cover_fast(
+                   s.a.at, s.a.len, s.b.at, s.b.len, used.multiplier, used.buckets, used.start, s.w.at, s.w.len, s.t.at, s.t.len,
+                   c.at, c.len);
+    MUST(answer.refusal == cover_refusal(&used, first, n, second, m, s.w.len, s.t.len, c.len));
+    saw(SAW_REFUSAL, plan->kind + (well ? 16 : 0), answer.refusal);
+    must_leave(s, answer, laid);
+    must_keep(c, answer.refusal == 0 ? SIGXUME_COVER_WORDS : 0);
+    if (answer.refusal == 0)
+        memcpy(curve, c.at, SIGXUME_COVER_WORDS * sizeof *curve);
+    return answer;
+}
+
+/* What holds of an accepted cover, beside what holds of its tiles: the words follow from the tiles, never rise, and are what a
+ * comparison covers at the minimum of the plan, at the length of the longest tile and above it, with the first of these tiles. */
+static void must_be_covered(
+    const struct plan *plan, const uint32_t *first, size_t n, const uint32_t *second, size_t m, sigxume_compared answer,
+    const uint32_t *tiles, const uint32_t *curve)
+{
+    uint32_t sum = answer.covered, longest = answer.tiles != 0 ? tiles[2] : 0;
+    size_t long_enough = answer.tiles, falls = 0;
+    MUST(curve[0] == answer.covered);
+    MUST(sigxume_score(answer.covered, n + m) == answer.score);
+    for (size_t k = 0; k < SIGXUME_COVER_WORDS; k++) {
+        for (; long_enough > 0 && tiles[3 * long_enough - 1] < k + 1; long_enough--)
+            sum -= tiles[3 * long_enough - 1];
+        MUST(curve[k] == sum);
+        MUST(k == 0 || curve[k] <= curve[k - 1]);
+        falls += k > 0 && curve[k] < curve[k - 1];
+    }
+    saw(SAW_CURVE, falls, bits(longest));
+
+    static uint32_t laid[LOT];
+    uint32_t minimums[] = {1 + plan->minimum % 256, longest, longest + 1};
+    for (size_t i = 0; i < sizeof minimums / sizeof *minimums; i++) {
+        uint32_t minimum = minimums[i] < 1 ? 1 : minimums[i] > 256 ? 256 : minimums[i];
+        struct plan one = served_well(*plan, minimum);
+        memset(one.room, 0, sizeof one.room);
+        sigxume_compared compared = try_engine(&one, side == AFTER || n * m > MEDIUM, first, n, second, m, laid);
+        MUST(compared.refusal == 0 && compared.covered == curve[minimum - 1]);
+        MUST(compared.score == sigxume_score(curve[minimum - 1], n + m));
+        MUST(compared.tiles <= answer.tiles && memcmp(laid, tiles, 3 * (size_t)compared.tiles * sizeof *laid) == 0);
+        MUST(compared.tiles == answer.tiles || tiles[3 * (size_t)compared.tiles + 2] < minimum);
+    }
+}
+
+static void try_cover(const struct plan *plan, const uint32_t *first, size_t n, const uint32_t *second, size_t m)
+{
+    static uint32_t tiles[LOT], other_tiles[LOT];
+    static uint32_t curve[SIGXUME_COVER_WORDS], other_curve[SIGXUME_COVER_WORDS], earlier_curve[SIGXUME_COVER_WORDS];
+    static sigxume_compared earlier;
+    sigxume_compared answer = try_settings(plan, true, first, n, second, m, tiles, curve);
+    sigxume_compared other = try_settings(plan, false, first, n, second, m, other_tiles, other_curve);
+    MUST(other.refusal == answer.refusal || other.refusal == 4 || other.refusal == 5);
+    if (answer.refusal != 0)
+        return;
+    if (other.refusal == 0) {
+        MUST(same(answer, other) && memcmp(curve, other_curve, sizeof curve) == 0);
+        MUST(memcmp(tiles, other_tiles, 3 * (size_t)answer.tiles * sizeof *tiles) == 0);
+    }
+    if (side == AFTER) {
+        must_be_tiled(first, n, second, m, 1, answer, tiles);
+        earlier = answer;
+        memcpy(earlier_curve, curve, sizeof curve);
+    } else {
+        MUST(same(answer, earlier) && memcmp(curve, earlier_curve, sizeof curve) == 0);
+    }
+    must_be_covered(plan, first, n, second, m, answer, tiles, curve);
+
+    /* Where the lengths differ, the sides may be exchanged. */
+    if (n != m) {
+        other = try_settings(plan, true, second, m, first, n, other_tiles, other_curve);
+        MUST(same(answer, other) && memcmp(curve, other_curve, sizeof curve) == 0);
     }
 }
 
@@ -597,7 +743,9 @@ static struct plan plan_of(const uint8_t *bytes)
     if (plan.in_range) {
         plan.minimum = 1 + plan.minimum % 256;
         plan.buckets = 1 + plan.buckets % 1024;
-        plan.start = plan.minimum + plan.start % (2049 - plan.minimum);
+        /* A cover is a comparison at minimum 1, whatever the plan's. */
+        uint32_t least = plan.kind == COVER ? 1 : plan.minimum;
+        plan.start = least + plan.start % (2049 - least);
     }
     return plan;
 }
@@ -627,13 +775,15 @@ static void try_plan(const struct plan *plan, const uint32_t *words, size_t len)
     case WRITE: try_write(plan, words, len); break;
     case HASHES: try_hashes(plan, words, len); break;
     case PAIR: try_pair(plan, words, len); break;
-    default:
-        if (plan->itself) {
-            try_compare(plan, words, len, words, len);
-        } else {
-            size_t cut = plan->cut % (len + 1);
-            try_compare(plan, words, cut, words + cut, len - cut);
-        }
+    default: {
+        size_t cut = plan->itself ? len : plan->cut % (len + 1);
+        const uint32_t *second = plan->itself ? words : words + cut;
+        size_t m = plan->itself ? len : len - cut;
+        if (plan->kind == COVER)
+            try_cover(plan, words, cut, second, m);
+        else
+            try_compare(plan, words, cut, second, m);
+    }
     }
 }
 
@@ -684,6 +834,14 @@ static void add(const uint32_t *words, size_t len)
     MUST(filled + 4 * len <= sizeof input);
     for (size_t i = 0; i < len; i++, filled += 4)
         put_word(input + filled, words[i]);
+}
+
+static void add_pair(const uint32_t *first, size_t n, const uint32_t *second, size_t m)
+{
+    input[4] = (uint8_t)n;
+    input[5] = (uint8_t)(n >> 8);
+    add(first, n);
+    add(second, m);
 }
 
 static void add_record(uint16_t id, const uint32_t *sequence, size_t count)
@@ -744,12 +902,12 @@ int main(int argc, char **argv)
         end(folder);
         for (size_t i = 0; i < sizeof minimums / sizeof *minimums; i++) {
             begin(COMPARE, minimums[i], 257, 256, minimums[i] > 20 ? minimums[i] : 20);
-            input[4] = (uint8_t)n;
-            input[5] = (uint8_t)(n >> 8);
-            add(first, n);
-            add(second, n - n / 9);
+            add_pair(first, n, second, n - n / 9);
             end(folder);
         }
+        begin(COVER, 8, 257, 256, 20);
+        add_pair(first, n, second, n - n / 9);
+        end(folder);
     }
     return 0;
 }
@@ -823,7 +981,7 @@ size_t LLVMFuzzerCustomMutator(uint8_t *data, size_t size, size_t max_size, unsi
         repair(bytes, len);
     if (plan.kind == PAIR && len > 0)
         repair(bytes + 4, len - 1);
-    if (plan.kind == COMPARE && len > 0 && below(2) == 0) {
+    if ((plan.kind == COMPARE || plan.kind == COVER) && len > 0 && below(2) == 0) {
         /* A block of one place at another too, so that there is something to lay. */
         size_t from = below(len), to = below(len), block = below(len - (from > to ? from : to)) + 1;
         memmove(bytes + 4 * to, bytes + 4 * from, 4 * block);

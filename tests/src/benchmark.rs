@@ -1,11 +1,13 @@
 //! What the tables of the benchmark share: the columns, the comparisons, the promises, Markdown.
 
 pub mod counting;
+pub mod cover;
 pub mod matrix;
+pub mod table;
 pub mod timing;
 
 use crate::pairs::Pair;
-use crate::reference::{self, tile_words, workspace_words};
+use crate::reference::{self, tile_words, workspace_words, COVER_WORDS};
 use crate::wise;
 use sigxume::raw::{self, Compared};
 use sigxume::Settings;
@@ -14,38 +16,36 @@ use std::hint::black_box;
 /// The first search length of the pair program, unless the minimum is larger.
 const START: u32 = 20;
 
-/// A way to compare: first, second, minimum, first search length, workspace, tile buffer.
-type Compare = fn(&[u32], &[u32], u32, u32, &mut [u32], &mut [u32]) -> Compared;
-
-/// A column of the tables.
+/// A column of the tables, which is a way to do a job.
 pub struct Column {
     pub name: &'static str,
-    compare: Compare,
+    run: fn(&mut Job) -> Compared,
 }
 
 /// The core's engines.
 pub static PLAIN: Column = Column {
     name: "plain engine",
-    compare: |first, second, minimum, _, workspace, tiles| {
-        raw::compare_plain(first, second, minimum, workspace, tiles)
+    run: |job| {
+        let [first, second] = &job.pair;
+        raw::compare_plain(
+            first,
+            second,
+            job.minimum,
+            &mut job.workspace,
+            &mut job.tiles,
+        )
     },
 };
 pub static FAST: Column = Column {
     name: "fast engine",
-    compare: |first, second, minimum, start, workspace, tiles| {
-        let settings = hashed_by(1_024, start);
-        raw::compare_fast(first, second, minimum, settings, workspace, tiles)
-    },
+    run: |job| job.compare_fast(job.minimum, hashed_by(1_024, job.start)),
 };
 
 /// The fast engine as the pair program sets it. With multiplier 257 and 256 buckets the bucket is the sum
 /// of a window's words, so that many windows share one.
 pub static PAIR: Column = Column {
     name: "fast engine, 256 buckets",
-    compare: |first, second, minimum, start, workspace, tiles| {
-        let settings = hashed_by(256, start);
-        raw::compare_fast(first, second, minimum, settings, workspace, tiles)
-    },
+    run: |job| job.compare_fast(job.minimum, hashed_by(256, job.start)),
 };
 
 /// The pair program's multiplier with so many buckets.
@@ -60,17 +60,24 @@ fn hashed_by(buckets: u32, start: u32) -> Settings {
 /// What they are measured against.
 pub static WISE: Column = Column {
     name: "Wise's port",
-    compare: wise::compare,
+    run: |job| {
+        let [first, second] = &job.pair;
+        let (workspace, tiles) = (&mut job.workspace, &mut job.tiles);
+        wise::compare(first, second, job.minimum, job.start, workspace, tiles)
+    },
 };
 pub static LITERAL: Column = Column {
     name: "literal tiling",
-    compare: |first, second, minimum, _, workspace, tiles| {
-        reference::compare_plain(first, second, minimum, workspace, tiles)
+    run: |job| {
+        let [first, second] = &job.pair;
+        let (workspace, tiles) = (&mut job.workspace, &mut job.tiles);
+        reference::compare_plain(first, second, job.minimum, workspace, tiles)
     },
 };
 
-/// A comparison, and the buffers lent to it, of exactly the size asked for. Between comparisons nothing
-/// clears them; each comparison leaves the workspace zero.
+/// A comparison, and the buffers lent to it, of exactly the size asked for; that for a cover is filled by
+/// those columns that give one. Between comparisons nothing clears them; each comparison leaves the
+/// workspace zero.
 pub struct Job {
     name: String,
     pair: Pair,
@@ -78,6 +85,7 @@ pub struct Job {
     start: u32,
     workspace: Vec<u32>,
     tiles: Vec<u32>,
+    cover: Vec<u32>,
 }
 
 impl Job {
@@ -90,28 +98,29 @@ impl Job {
             start,
             workspace: vec![0; workspace_words(n, m)],
             tiles: vec![0; tile_words(n, m, minimum)],
+            cover: vec![0; COVER_WORDS],
         }
     }
 
     fn run(&mut self, column: &Column) -> Compared {
-        let [first, second] = black_box(&self.pair);
-        let answer = (column.compare)(
-            first,
-            second,
-            black_box(self.minimum),
-            black_box(self.start),
-            &mut self.workspace,
-            &mut self.tiles,
-        );
-        black_box(answer)
+        black_box((column.run)(black_box(self)))
     }
 
-    /// The answer and what is left in both buffers, where every bit was set before.
-    fn outcome(&mut self, column: &Column) -> (Compared, Vec<u32>, Vec<u32>) {
+    /// A comparison of the pair by the fast engine.
+    fn compare_fast(&mut self, minimum: u32, settings: Settings) -> Compared {
+        let [first, second] = &self.pair;
+        let (workspace, tiles) = (&mut self.workspace, &mut self.tiles);
+        raw::compare_fast(first, second, minimum, settings, workspace, tiles)
+    }
+
+    /// The answer and what is left in the buffers, where every bit was set before.
+    fn outcome(&mut self, column: &Column) -> (Compared, [Vec<u32>; 3]) {
         self.workspace.fill(u32::MAX);
         self.tiles.fill(u32::MAX);
+        self.cover.fill(u32::MAX);
         let answer = self.run(column);
-        (answer, self.workspace.clone(), self.tiles.clone())
+        let left = [&self.workspace, &self.tiles, &self.cover];
+        (answer, left.map(Vec::clone))
     }
 
     /// Whether the columns accept the pair, give the same answers and tiles and leave the same words.
@@ -130,6 +139,12 @@ impl Job {
         }
         good
     }
+}
+
+/// Whether the columns agree on every job; where they do not, each is named.
+fn all_agree(jobs: &mut [Job], columns: &[&Column]) -> bool {
+    let answers = jobs.iter_mut().map(|job| job.agree(columns));
+    answers.fold(true, |all, good| all & good)
 }
 
 /// What was promised, and what came of it.

@@ -132,9 +132,10 @@ impl<'a> Problem<'a> {
 }
 
 /// The cover by the core of a pair that is accepted: its answer, the tiles that it lists, and the
-/// words that it fills.
+/// words of the cover, where every bit was set before.
 fn covered(settings: Settings, pair: Sides) -> (Compared, Vec<Tile>, Vec<u32>) {
-    let [mut workspace, mut tiles, mut words] = Problem::new(pair).needed().map(|n| vec![0; n]);
+    let lent = Problem::new(pair).needed().map(|room| vec![u32::MAX; room]);
+    let [mut workspace, mut tiles, mut words] = lent;
     let answer = cover(settings, pair, [&mut workspace, &mut tiles, &mut words]);
     (answer, Tile::list(&tiles, answer.tiles), words)
 }

@@ -1,22 +1,24 @@
-//! Measures the core's engines beside baselines, in one run: their time, the time of the tool's matrix, and
+//! Measures the core's engines beside baselines, in one run: their time, that of a cover and of the tool's matrix, and
 //! their instructions on the strings of Wise's paper. First all of them must answer alike, word for word; then the tables are
 //! printed, and what was promised of them. The exit status is 1 where an answer differs or a promise
 //! is not kept.
 
-use sigxume_tests::benchmark::{counting, matrix, timing, Promises};
+use sigxume_tests::benchmark::{counting, cover, matrix, timing, Promises};
 use std::process::ExitCode;
 
 /// Everything in order; whether all answers agree and all promises are kept.
 fn measure() -> Result<bool, String> {
     counting::ready()?;
     let mut jobs = timing::jobs();
-    if !(timing::agree(&mut jobs) & counting::agree()) {
+    let mut covered = cover::jobs();
+    if !(timing::agree(&mut jobs) & cover::agree(&mut covered) & counting::agree()) {
         return Ok(false);
     }
     println!("All columns give the same answers and tiles and leave a dirty workspace zero.\n");
     let promises = &mut Promises::default();
     timing::compare_columns(&mut jobs, promises);
     timing::grow();
+    cover::compare_cover(&mut covered, promises);
     matrix::compare_matrix(promises).map_err(|error| error.to_string())?;
     counting::compare_counts(promises).map_err(|error| error.to_string())?;
     println!("\nPromises:\n");

@@ -4,7 +4,7 @@ use super::covered;
 use crate::comparisons::listed;
 use crate::engine::{any_settings, Engine};
 use crate::group::Group;
-use crate::pairs::{any_pair, pattern_words, related, unrelated, Sides};
+use crate::pairs::{any_pair, calls, pattern_words, related, unrelated, Sides};
 use crate::random::Random;
 use crate::reference::{Tile, MAX_MINIMUM, MAX_WORDS};
 use sigxume::Settings;
@@ -70,7 +70,9 @@ pub fn laws(g: &mut Group) {
         );
     }
     let random = &mut g.random;
+    let longer = calls(random, MAX_MINIMUM as usize + 1, 40);
     let mut pairs = vec![
+        [longer.clone(), longer],
         related(random, MAX_WORDS, 40),
         related(random, MAX_WORDS, 4),
         unrelated(random, MAX_WORDS, 40),

@@ -1,0 +1,84 @@
+//! The cover at every minimum from one run, beside a comparison at each minimum and beside one at the
+//! least.
+
+use super::table::{Limit, Table};
+use super::{all_agree, timing, Column, Job, Promises, FAST, START};
+use crate::reference::COVER_WORDS;
+use sigxume::{raw, Settings};
+
+/// The pairs of the first table that are covered.
+const PAIRS: [&str; 5] = [
+    "related",
+    "unrelated",
+    "identical",
+    "one code, broken",
+    "short",
+];
+
+/// The minimum of the run that a cover is made from.
+const MINIMUM: u32 = 1;
+
+static COVER: Column = Column {
+    name: "cover",
+    run: |job| {
+        let [first, second] = &job.pair;
+        let settings = Settings::for_minimum(MINIMUM);
+        let (workspace, tiles) = (&mut job.workspace, &mut job.tiles);
+        raw::cover_fast(first, second, settings, workspace, tiles, &mut job.cover)
+    },
+};
+
+/// A comparison at each minimum. That at the least one comes last and is the fast engine's column, whose
+/// answer and tiles are the cover's.
+static EACH: Column = Column {
+    name: "256 comparisons",
+    run: |job| {
+        for k in (1..COVER_WORDS).rev() {
+            let minimum = MINIMUM + k as u32;
+            let answer = job.compare_fast(minimum, Settings::for_minimum(minimum));
+            job.cover[k] = answer.covered;
+        }
+        let answer = (FAST.run)(job);
+        job.cover[0] = answer.covered;
+        answer
+    },
+};
+
+/// The pairs on which a cover may cost more beside a comparison, each with the reason.
+const ENTRIES_COUNT: [(&str, &str); 1] = [(
+    "short",
+    "writing 256 entries is not little beside comparing so few words",
+)];
+
+#[rustfmt::skip]
+static TABLE: Table = Table {
+    columns: &[&COVER, &EACH, &FAST],
+    ratios: &[(&COVER, &FAST), (&EACH, &COVER)],
+    promises: &[("related", &EACH, &COVER, Limit::AtLeast(50.0))],
+    everywhere: (&COVER, &FAST, 1.15),
+    exceptions: &ENTRIES_COUNT,
+};
+
+/// The pairs that are covered.
+pub fn jobs() -> Vec<Job> {
+    let pairs = timing::jobs().into_iter();
+    let covered = pairs.filter(|job| PAIRS.contains(&&*job.name));
+    covered
+        .map(|job| Job::new(&job.name, job.pair, MINIMUM, START))
+        .collect()
+}
+
+/// Whether the cover is that of the comparisons at each minimum, in its answer, its words and its tiles.
+pub fn agree(jobs: &mut [Job]) -> bool {
+    all_agree(jobs, &[&COVER, &EACH])
+}
+
+/// Prints the time of a cover, of the comparisons at each minimum and of the one at the least.
+pub fn compare_cover(jobs: &mut [Job], promises: &mut Promises) {
+    println!(
+        "\nCover at every minimum. Median time in ms of one run of it, of a comparison at each minimum \
+         from {MINIMUM} to {COVER_WORDS}, and of one at minimum {MINIMUM}, all by the fast engine with the \
+         library's settings; pairs of the first table.\n"
+    );
+    TABLE.print(jobs, promises);
+}
