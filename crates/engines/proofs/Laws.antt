@@ -4,6 +4,7 @@
 -- Assumes nothing.
 use Prim.Native.Nat.{ℕ, _+_, _≤_}
 use native.Mathlib.Omega.{arith}
+use mathlib.Core.Logic.{inl, inr}
 use mathlib.Core.Path.{_≡_, refl, sym, _∙_, ap, subst}
 use mathlib.Core.Bool.{Bool, true, false, not}
 use mathlib.Core.List.{List}
@@ -12,7 +13,7 @@ use lib.ListN.{length}
 use Rattle.symbol.specs.Sequence.{allSound, tooLong}
 use Rattle.symbol.specs.Refusal.{refuse}
 use Rattle.tiling.specs.Greedy.{Begins}
-use Rattle.tiling.specs.Comparing.{sequences, minimums, room, plainRefusal, Comparable, Roomy}
+use Rattle.tiling.specs.Comparing.{sequences, minimums, room, plainRefusal, fastRefusal, Comparable, Roomy}
 use Rattle.tiling.specs.Answer.{Compares}
 use Rattle.tiling.specs.Demand.{long, tilesOf, Demands, Exchanges}
 use Rattle.tiling.specs.declared.Compared.{Compared}
@@ -21,7 +22,7 @@ use Rattle.tiling.proofs.Demand.{covered-falls, score-falls}
 use Rattle.tiling.proofs.Answers.{answers-number, answers-covered, answers-demands, answers-exchange, answers-begin}
 use Rattle.plain.specs.Promise.{Plain}
 use Rattle.search.specs.Promise.{Fast}
-use Rattle.engines.specs.Engine.{Engine, plain, fast, Promise, refusalBy, SetFor}
+use Rattle.engines.specs.Engine.{Engine, plain, fast, Promise, refusalBy, OwnRefusal, SetFor}
 use Rattle.engines.specs.Equal.{Equal}
 
 -- ---- the promise of an engine is its contract
@@ -86,9 +87,8 @@ agree-five : (t : Bool) {x y : ℕ} → Agree x y → Agree (refuse t 5 x) y
 agree-five true h = λ four five. absurd (five refl)
 agree-five false h = h
 
-refusals-agree : (e : Engine) (first second : List ℕ) (minimum workspace tiles : ℕ) → Agree (refusalBy e first second minimum workspace tiles) (plainRefusal first second minimum workspace tiles)
-refusals-agree plain first second minimum workspace tiles = λ four five. refl
-refusals-agree (fast buckets start) first second minimum workspace tiles =
+refusals-agree : (first second : List ℕ) (minimum buckets start workspace tiles : ℕ) → Agree (fastRefusal first second minimum buckets start workspace tiles) (plainRefusal first second minimum workspace tiles)
+refusals-agree first second minimum buckets start workspace tiles =
     agree-both (tooLong first) 1
     (agree-both (tooLong second) 1
     (agree-both (not (allSound first)) 2
@@ -100,11 +100,14 @@ refusals-agree (fast buckets start) first second minimum workspace tiles =
     (agree-five (ltb start minimum)
     (agree-five (ltb 2048 start) (λ four five. refl))))))))))
 
--- The number in an answer, where it is no refusal of the settings, is the plain engine's.
-plain-number : (e : Engine) {first second : List ℕ} {minimum : ℕ} {ws b : List ℕ} {a : Compared} {ws' b' : List ℕ} → Promise e first second minimum ws b a ws' b' → (a .refusal ≡ 4 → ⊥) → (a .refusal ≡ 5 → ⊥) → refusalBy e first second minimum (length ws) (length b) ≡ plainRefusal first second minimum (length ws) (length b)
-plain-number e {first} {second} {minimum} {ws} {b} c four five =
-    let n = ap (λ x. x .refusal) (c .answer) in
-    refusals-agree e first second minimum (length ws) (length b) (λ d. four (n ∙ d)) (λ d. five (n ∙ d))
+-- So the number of any engine is the plain engine's, where it does not refuse its own settings.
+plain-number : (e : Engine) (first second : List ℕ) (minimum workspace tiles n : ℕ) → n ≡ refusalBy e first second minimum workspace tiles → (OwnRefusal e n → ⊥) → refusalBy e first second minimum workspace tiles ≡ plainRefusal first second minimum workspace tiles
+plain-number plain first second minimum workspace tiles n k own = refl
+plain-number (fast buckets start) first second minimum workspace tiles n k own =
+    refusals-agree first second minimum buckets start workspace tiles (λ d. own (inl (k ∙ d))) (λ d. own (inr (k ∙ d)))
+
+number-of : (e : Engine) {first second : List ℕ} {minimum : ℕ} {ws b : List ℕ} {a : Compared} {ws' b' : List ℕ} → Promise e first second minimum ws b a ws' b' → (OwnRefusal e (a .refusal) → ⊥) → refusalBy e first second minimum (length ws) (length b) ≡ plainRefusal first second minimum (length ws) (length b)
+number-of e {first} {second} {minimum} {ws} {b} {a} c own = plain-number e first second minimum (length ws) (length b) (a .refusal) (ap (λ x. x .refusal) (c .answer)) own
 
 -- With settings in range the number is that of the plain engine.
 set-number : (e : Engine) (first second : List ℕ) (minimum workspace tiles : ℕ) → SetFor e minimum → refusalBy e first second minimum workspace tiles ≡ plainRefusal first second minimum workspace tiles
@@ -113,9 +116,9 @@ set-number (fast buckets start) first second minimum workspace tiles s =
     ap (λ k. sequences first second (minimums minimum k)) (in-range-passes minimum buckets start (room (length first) (length second) minimum workspace tiles 0) s)
 
 module _ (e e' : Engine) {first second : List ℕ} {minimum : ℕ} {ws b : List ℕ} {a a' : Compared} {ws' b' ws₁ b₁ : List ℕ} (c : Promise e first second minimum ws b a ws' b') (c' : Promise e' first second minimum ws b a' ws₁ b₁) where
-  -- Accepted, or refused for any other cause than the settings of the search: the two calls cannot be told apart.
-  pub engines-equal : (a .refusal ≡ 4 → ⊥) → (a .refusal ≡ 5 → ⊥) → (a' .refusal ≡ 4 → ⊥) → (a' .refusal ≡ 5 → ⊥) → Equal a ws' b' a' ws₁ b₁
-  engines-equal four five four' five' = only (plain-number e' c' four' five' ∙ sym (plain-number e c four five)) c c'
+  -- Accepted, or refused for any other cause than an engine's own settings: the two calls cannot be told apart.
+  pub engines-equal : (OwnRefusal e (a .refusal) → ⊥) → (OwnRefusal e' (a' .refusal) → ⊥) → Equal a ws' b' a' ws₁ b₁
+  engines-equal own own' = only (number-of e' c' own' ∙ sym (number-of e c own)) c c'
 
   -- Settings in range are never the cause, so there the two cannot be told apart, accepted or refused.
   pub in-range-equal : SetFor e minimum → SetFor e' minimum → Equal a ws' b' a' ws₁ b₁

@@ -1,5 +1,7 @@
 -- Either engine, so that what holds of both is said once.
 use Prim.Native.Nat.{ℕ}
+use mathlib.Core.Logic.{_⊎_}
+use mathlib.Core.Path.{_≡_}
 use mathlib.Core.List.{List}
 use lib.ListN.{length}
 use Rattle.tiling.specs.Comparing.{plainRefusal, fastRefusal, InRange}
@@ -21,7 +23,12 @@ refusalBy (fast buckets start) first second minimum workspace tiles = fastRefusa
 abbrev pub Promise : Engine → List ℕ → List ℕ → ℕ → List ℕ → List ℕ → Compared → List ℕ → List ℕ → Type 0
 Promise e first second minimum ws b a ws' b' = Compares (refusalBy e first second minimum (length ws) (length b)) first second minimum ws b a ws' b'
 
--- Its settings are in range at a minimum. The plain engine has none.
+-- A number by which it refuses its own settings: 4 or 5. The plain engine has none.
+abbrev pub OwnRefusal : Engine → ℕ → Type 0
+OwnRefusal plain n = ⊥
+OwnRefusal (fast buckets start) n = (n ≡ 4) ⊎ (n ≡ 5)
+
+-- Its settings are in range at a minimum.
 abbrev pub SetFor : Engine → ℕ → Type 0
 SetFor plain minimum = Unit {0}
 SetFor (fast buckets start) minimum = InRange minimum buckets start
