@@ -12,8 +12,8 @@ use Rattle.tiling.specs.Comparing.{fastChecks}
 use Rattle.tiling.specs.Answer.{Compares}
 use Rattle.tiling.specs.declared.Compared.{Compared}
 
--- "a buffer below 256 words is 11, after the comparison's own checks at minimum 1." Sequences, bucket count and first search length; then how
--- many words workspace, tile buffer and this buffer have.
+-- "a buffer below 256 words is 11, after the comparison's own checks at minimum 1", where the cause 3 never holds. Sequences, bucket count and
+-- first search length; then how many words workspace, tile buffer and this buffer have.
 abbrev pub coverRefusal : List ℕ → List ℕ → ℕ → ℕ → ℕ → ℕ → ℕ → ℕ
 coverRefusal first second buckets start workspace tiles entries =
     fastChecks first second 1 buckets start workspace tiles (refuse (ltb entries 256) 11 0)

@@ -44,19 +44,13 @@ static EACH: Column = Column {
     },
 };
 
-/// The pairs on which a cover may cost more beside a comparison, each with the reason.
-const ENTRIES_COUNT: [(&str, &str); 1] = [(
-    "short",
-    "writing 256 entries is not little beside comparing so few words",
-)];
-
 #[rustfmt::skip]
 static TABLE: Table = Table {
     columns: &[&COVER, &EACH, &FAST],
     ratios: &[(&COVER, &FAST), (&EACH, &COVER)],
     promises: &[("related", &EACH, &COVER, Limit::AtLeast(50.0))],
     everywhere: (&COVER, &FAST, 1.15),
-    exceptions: &ENTRIES_COUNT,
+    exceptions: &[],
 };
 
 /// The pairs that are covered.
