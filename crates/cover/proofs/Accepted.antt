@@ -2,10 +2,9 @@
 -- cover, is what the tiles at minimum k + 1 cover, for these are the first ones, down to the last that is long enough.
 -- Assumes nothing.
 use Prim.Native.Nat.{ℕ, _+_, _*_, _≤_, _<_}
-use native.Mathlib.Nat.{div-le-self}
 use native.Mathlib.Omega.{arith}
 use mathlib.Core.Path.{_≡_, refl, sym, _∙_, ap}
-use mathlib.Core.List.{List, [], _∷_, _++_}
+use mathlib.Core.List.{List, _∷_, _++_}
 use borrow.Author.Tests.{ltb-false}
 use lib.Dec.{ltb}
 use lib.ListN.{length}
@@ -43,15 +42,15 @@ cover-of : (first second : List ℕ) (k : ℕ) → coverOf (listing first second
 cover-of first second k = ap covered (first-begins (listing-begins first second 1 (k + 1) (omega arith) (omega arith)))
 
 -- ---- where no cause holds
-pub record Known (first second : List ℕ) (buckets start workspace tiles entries : ℕ) : Type 0 where
+pub record Accepted (first second : List ℕ) (buckets start workspace tiles entries : ℕ) : Type 0 where
   pub can : Comparable first second 1
   pub set : InRange 1 buckets start
   pub room : Roomy (length first) (length second) 1 workspace tiles
   pub enough : 256 ≤ entries
 
 module _ (first second : List ℕ) (buckets start workspace tiles entries r : ℕ) (e : r ≡ coverRefusal first second buckets start workspace tiles entries) (z : r ≡ 0) where
-  pub known : Known first second buckets start workspace tiles entries
-  known =
+  pub accepted : Accepted first second buckets start workspace tiles entries
+  accepted =
       let n = sym e ∙ z in
       record {
         can = comparable first second 1 _ n;
@@ -62,23 +61,23 @@ module _ (first second : List ℕ) (buckets start workspace tiles entries r : �
 
 -- ---- what was compared
 module _ (first second : List ℕ) (ws b : List ℕ) (a : Compared) (ws' b' : List ℕ) (c : Compares 0 first second 1 ws b a ws' b') where
-  accepted : a .refusal ≡ 0
-  accepted = ap (λ x. x .refusal) (c .answer)
+  not-refused : a .refusal ≡ 0
+  not-refused = ap (λ x. x .refusal) (c .answer)
 
-  module _ (buckets start entries : ℕ) (k : Known first second buckets start (length ws) (length b) entries) where
+  module _ (buckets start entries : ℕ) (k : Accepted first second buckets start (length ws) (length b) entries) where
     -- The tiles stand whole in the buffer, and what they cover is at most a length.
     pub tiles-whole : length b' ≡ length b → 3 * a .tiles ≤ length b'
     tiles-whole same =
-        let counted : a .tiles ≡ length (listing first second 1) = answers-demands c accepted (k .can) .tiles ∙ ap length (answers-listed c accepted) in
+        let counted : a .tiles ≡ length (listing first second 1) = answers-demands c not-refused (k .can) .tiles ∙ ap length (answers-listed c not-refused) in
         omega (arith, counted, tiles-fit first second 1 (omega arith), k .room .tile-room)
 
     pub tiles-few : covered (tilesIn (a .tiles) b') ≤ 2048
-    tiles-few = omega (arith, answers-demands c accepted (k .can) .tiled .within-first, k .can .first-short)
+    tiles-few = omega (arith, answers-demands c not-refused (k .can) .tiled .within-first, k .can .first-short)
 
   listed-entries : (e e' : List ℕ) → e' ≡ onto (tabulate (coverOf (tilesIn (a .tiles) b')) 256) e → e' ≡ onto (tabulate (coverAt first second) 256) e
   listed-entries e e' f =
       let same : tabulate (coverOf (tilesIn (a .tiles) b')) 256 ≡ tabulate (coverAt first second) 256 =
-      ap (λ es. tabulate (coverOf es) 256) (answers-listed c accepted) ∙ tabulate-same (coverOf (listing first second 1)) (coverAt first second) (cover-of first second) 256 in
+      ap (λ es. tabulate (coverOf es) 256) (answers-listed c not-refused) ∙ tabulate-same (coverOf (listing first second 1)) (coverAt first second) (cover-of first second) 256 in
       f ∙ ap (λ xs. onto xs e) same
 
 -- ---- the promise, where r is the refusal's number by the code

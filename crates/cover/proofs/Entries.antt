@@ -1,11 +1,11 @@
 -- The entries, filled from the last to the first: at each minimum the walk goes on over the tiles that have it, and what is passed then is
 -- what they cover. A walk for a length is one for any smaller length.
 -- Assumes nothing.
-use Prim.Native.Nat.{ℕ, zero, _+_, _-_, _*_, _≤_, _<_}
+use Prim.Native.Nat.{ℕ, _+_, _-_, _*_, _≤_, _<_}
 use native.Mathlib.Omega.{arith}
-use mathlib.Core.Path.{_≡_, refl, sym, _∙_, ap}
+use mathlib.Core.Path.{_≡_}
 use mathlib.Core.List.{List}
-use lib.ListN.{length, set, drop}
+use lib.ListN.{length, set}
 use Rattle.buffer.specs.Buffer.{onto, tabulate}
 use Rattle.buffer.proofs.Buffer.{Filling, filling-none, filling-more, filling-all}
 use Rattle.tiling.specs.Listing.{covered}

@@ -22,7 +22,7 @@ use Rattle.tiling.proofs.Tally.{tally-length}
 use Rattle.tiling.proofs.Greedy.{only}
 use Rattle.tiling.proofs.Tiling.{tiling-greedy}
 use Rattle.tile.specs.Listed.{listed}
-use Rattle.sweep.specs.Workspace.{Space, state}
+use Rattle.sweep.specs.Workspace.{state}
 use Rattle.sweep.specs.Progress.{Fits, Laid, Finished}
 use Rattle.sweep.specs.declared.Job.{Job}
 use Rattle.sweep.specs.declared.Totals.{Totals}

@@ -1,1 +1,1 @@
-// Laws about both engines together; there is no code here.
+// Laws of the answers of both engines and of the cover at every minimum; there is no code here.

@@ -2,21 +2,20 @@
 -- is the next one after this, and where the window at t is free it becomes the head.
 -- Assumes nothing.
 use Prim.Native.Nat.{ℕ, _+_, _-_, _≤_, _<_}
-use native.Mathlib.Nat.{mod-lt}
-use native.Mathlib.Decide.{decLt, decLe, ℕ-discrete}
+use native.Mathlib.Decide.{decLt, ℕ-discrete}
 use native.Mathlib.Omega.{arith}
 use mathlib.Core.Path.{_≡_, refl, sym, _∙_, ap}
 use mathlib.Core.Bool.{Bool, true, false}
 use mathlib.Core.List.{List}
 use borrow.Author.Tests.{lt-ltb, le-ltb, le-leb, lt-leb, eq-eqb, ne-eqb}
-use lib.ListN.{length, getD, set, length-set, replicate, getD-replicate, List·getD-eq-default}
+use lib.ListN.{length, getD, set, replicate, getD-replicate, List·getD-eq-default}
 use lib.Seq.{getD-set-same, getD-set-other}
 use Rattle.window.specs.Hash.{bucket}
 use Rattle.sweep.specs.Workspace.{Space, state, boundsFrom}
 use Rattle.sweep.specs.declared.Job.{Job}
 use Rattle.sweep.proofs.Workspace.{state-set, space-kept}
 use Rattle.index.specs.Indexed.{patternHash, textHash, link, slot, Ranges}
-use Rattle.index.specs.Built.{freeAt, inBucket, nextIn, unless, Entered, Linked}
+use Rattle.index.specs.Built.{freeAt, inBucket, nextIn, Entered, Linked}
 use Rattle.index.specs.declared.Pass.{Pass}
 use Rattle.index.proofs.Bucket.{bucket-below}
 use Rattle.index.proofs.First.{first-least, first-same, next-here, next-later, next-none}

@@ -4,7 +4,7 @@
 -- Assumes nothing.
 use Prim.Native.Nat.{ℕ, _+_, _-_, _≤_, _<_}
 use native.Mathlib.Omega.{arith}
-use mathlib.Core.Path.{_≡_, refl, sym, _∙_, ap, subst}
+use mathlib.Core.Path.{_≡_, refl, sym, _∙_, ap}
 use mathlib.Core.Bool.{Bool, true, false, _&&_}
 use mathlib.Core.List.{List, _++_}
 use borrow.Author.Tests.{le-leb, eq-eqb, eqb-true}
@@ -29,7 +29,7 @@ use Rattle.index.specs.declared.Pass.{Pass}
 use Rattle.index.proofs.Bucket.{bucket-below}
 use Rattle.index.proofs.First.{first-least, first-most, first-passes}
 use Rattle.index.proofs.Free.{free-run}
-use Rattle.index.proofs.Kept.{row-inside, column-inside}
+use Rattle.index.proofs.Kept.{column-inside}
 
 -- The words of a run are the same on both sides.
 run-equal : (ps ts : List ℕ) (s : ℕ) → s ≤ run ps ts → take s ps ≡ take s ts

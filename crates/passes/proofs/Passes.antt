@@ -22,7 +22,7 @@ use Rattle.index.specs.Indexed.{Ranges}
 use Rattle.index.specs.Built.{Built}
 use Rattle.index.specs.declared.Pass.{Pass}
 use Rattle.rows.specs.Reached.{FilledRows, Measured}
-use Rattle.passes.specs.Passing.{atLength, Again, Tried, After, Stretch}
+use Rattle.passes.specs.Passing.{atLength, Tried, After, Stretch}
 
 -- ---- the index and what is measured by it
 module _ (x : Pass) (heads : List ℕ) (seen : List Bool) (ws ws₁ ws₂ : List ℕ) (built : Built x ws ws₁ heads seen) where

@@ -1,7 +1,7 @@
 -- Searching a row. What was found so far is the longest of the runs before t, or the floor. A longer run at u has the pattern's word at
 -- that offset, so the positions between two occurrences of it can be passed over; and where too few words are left, no run is longer.
 -- Assumes nothing.
-use Prim.Native.Nat.{ℕ, zero, suc, _+_, _-_, _≤_, _<_, max}
+use Prim.Native.Nat.{ℕ, _+_, _-_, _≤_, _<_, max}
 use native.Mathlib.Nat.{not-suc-le-zero}
 use native.Mathlib.Decide.{decLt, ℕ-discrete}
 use native.Mathlib.Omega.{arith}

@@ -16,7 +16,6 @@ use Rattle.tile.specs.declared.TextAt.{TextAt}
 use Rattle.sweep.specs.Workspace.{Space, state}
 use Rattle.sweep.specs.Row.{better}
 use Rattle.sweep.specs.declared.Found.{Found}
-use Rattle.sweep.specs.declared.Job.{Job}
 use Rattle.sweep.proofs.Row.{better-new, better-old}
 use Rattle.sweep.proofs.Workspace.{pattern-length, text-length}
 use Rattle.index.specs.Indexed.{Indexed, patternHash, textHash, link, slot}

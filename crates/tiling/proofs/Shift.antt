@@ -1,7 +1,7 @@
 -- The shift of a listed tile. A difference is at most what it is taken from, and at least the negation of what is taken; a tile of one word or
 -- more in sequences of at most 2,048 words starts at 2,047 or before on both.
 -- Assumes nothing.
-use Prim.Native.Nat.{ℕ, zero, suc, _-_, _≤_}
+use Prim.Native.Nat.{ℕ, zero, suc, _≤_}
 use native.Mathlib.Nat.{not-suc-le-zero}
 use native.Mathlib.Omega.{arith}
 use mathlib.Core.Path.{_≡_, refl}

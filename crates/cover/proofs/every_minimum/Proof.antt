@@ -3,7 +3,7 @@
 -- Assumes nothing.
 use denote.Ref.{now}
 use lib.ListN.{length}
-use Rattle.cover.proofs.Accepted.{Known, known, tiles-whole, tiles-few, every-refused, every-accepted}
+use Rattle.cover.proofs.Accepted.{Accepted, accepted, tiles-whole, tiles-few, every-refused, every-accepted}
 use borrow.Author.Needs.{needs}
 use Rattle.cover.proofs.every_minimum.Statement.{statement}
 use Rattle.cover.proofs.every_minimum.Tie as tie
@@ -17,14 +17,14 @@ refused-requires c κs = search needs
 returns : tie.Need-returns
 returns c = search every-refused
 
-known-here : (c : tie.Else1) → let a = c .before .before .before .before .before .before .before .args in Known (now (a .first)) (now (a .second)) (a .settings .buckets) (a .settings .start) (length (now (a .workspace))) (length (now (a .tiles))) (length (now (a .cover)))
-known-here c =
+accepted-here : (c : tie.Else1) → let a = c .before .before .before .before .before .before .before .args in Accepted (now (a .first)) (now (a .second)) (a .settings .buckets) (a .settings .start) (length (now (a .workspace))) (length (now (a .tiles))) (length (now (a .cover)))
+accepted-here c =
     let a = c .before .before .before .before .before .before .before .args in
-    known (now (a .first)) (now (a .second)) (a .settings .buckets) (a .settings .start) (length (now (a .workspace))) (length (now (a .tiles))) (length (now (a .cover)))
+    accepted (now (a .first)) (now (a .second)) (a .settings .buckets) (a .settings .start) (length (now (a .workspace))) (length (now (a .tiles))) (length (now (a .cover)))
     (c .before .cover-refusal .result) (c .before .cover-refusal .ensures) (c .if1 .left)
 
 compare-accepted-requires : tie.Need-compare-accepted-requires
-compare-accepted-requires c κs = let k = known-here (c .before .before) in (k .can, (k .set, k .room))
+compare-accepted-requires c κs = let k = accepted-here (c .before .before) in (k .can, (k .set, k .room))
 
 cast-fill : tie.Need-cast-fill
 cast-fill c = search needs
@@ -32,7 +32,7 @@ cast-fill c = search needs
 fill-requires : tie.Need-fill-requires
 fill-requires c κs =
     let called = c .before .before .before .before .before .before .before in
-    let k = known-here (called .before .before .before) in
+    let k = accepted-here (called .before .before .before) in
     (search (tiles-whole, k, needs), search (tiles-few, k), search (k, needs))
 
 same-length : tie.Need-same-length
