@@ -86,12 +86,12 @@ module _ (first second : List ℕ) (buckets start : ℕ) (ws b e : List ℕ) (r 
   every-refused d a is =
       record {
         compares = compare-refused first second 1 ws b r _ n d a is;
-        entries = kept r _ n (onto (tabulate (coverAt first second) 256) e) e d;
+        entries = kept r _ n _ e d;
       }
 
   pub every-accepted : r ≡ 0 → (a : Compared) (ws' b' e' : List ℕ) → Compares 0 first second 1 ws b a ws' b' → e' ≡ onto (tabulate (coverOf (tilesIn (a .tiles) b')) 256) e → EveryMinimum first second buckets start ws b e a ws' b' e'
   every-accepted z a ws' b' e' c f =
       record {
         compares = compare-passed first second 1 ws b r _ n z a ws' b' c;
-        entries = given r _ n e' (onto (tabulate (coverAt first second) 256) e) e z (listed-entries first second ws b a ws' b' c e e' f);
+        entries = given r _ n e' _ e z (listed-entries first second ws b a ws' b' c e e' f);
       }
