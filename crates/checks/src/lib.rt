@@ -1,7 +1,8 @@
 // The checks that come before a comparison. Each answers the number of its own refusal, or 0.
 ghost use mathlib.Core.Path.{_≡_};
 ghost use Prim.Native.Nat.{_/_, _≤_, min};
-ghost use Rattle.tiling.specs.Comparing.{sequences, minimums, settings, room};
+ghost use lib.ListN.{length};
+ghost use Rattle.tiling.specs.Comparing.{sequences, minimums, settings, room, Comparable};
 
 // The checks of the sequences: 1 for more than 2,048 words, 2 for an unsound word.
 fn sequences_refusal(first: &[u32], second: &[u32]) -> u32
@@ -85,14 +86,22 @@ fn most_tiles(n: usize, m: usize, minimum: usize) -> usize
 }
 
 // The checks of the room: 6 for a workspace too short, 7 for a tile buffer too short.
-pub fn room_refusal(n: usize, m: usize, minimum: usize, workspace: usize, tiles: usize) -> u32
-    requires { ⌜ (n ≤ 2048) × (m ≤ 2048) × (1 ≤ minimum) ⌝ }
-    ensures { λ r. ⌜ r ≡ room n m minimum workspace tiles 0 ⌝ }
+pub fn room_refusal(
+    first: &[u32],
+    second: &[u32],
+    minimum: u32,
+    workspace: usize,
+    tiles: usize,
+) -> u32
+    requires { ⌜ Comparable (now first) (now second) minimum ⌝ }
+    ensures { λ r. ⌜ r ≡ room (length (now (first .entry))) (length (now (second .entry))) minimum workspace tiles 0 ⌝ }
 {
+    let n = first.len();
+    let m = second.len();
     if workspace < 4 * (n + m) {
         return 6;
     }
-    if tiles < 3 * most_tiles(n, m, minimum) {
+    if tiles < 3 * most_tiles(n, m, minimum as usize) {
         return 7;
     }
     0

@@ -139,13 +139,7 @@ fn plain_refusal(first: &[u32], second: &[u32], minimum: u32, workspace: usize, 
     if of_pair != 0 {
         return of_pair;
     }
-    checks::room_refusal(
-        first.len(),
-        second.len(),
-        minimum as usize,
-        workspace,
-        tiles,
-    )
+    checks::room_refusal(first, second, minimum, workspace, tiles)
 }
 
 // Compares two sequences by greedy string tiling with a minimum length of tiles. The tiles go to the start of the tile

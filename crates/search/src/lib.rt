@@ -34,13 +34,7 @@ pub fn fast_refusal(
     if of_settings != 0 {
         return of_settings;
     }
-    checks::room_refusal(
-        first.len(),
-        second.len(),
-        minimum as usize,
-        workspace,
-        tiles,
-    )
+    checks::room_refusal(first, second, minimum, workspace, tiles)
 }
 
 // Compares two sequences for which no cause of a refusal holds.

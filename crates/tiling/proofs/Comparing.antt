@@ -249,14 +249,8 @@ module _ (first second : List ℕ) (minimum q : ℕ) (of-pair : q ≡ sequences 
   pair-refused later = part-stops _ (comparable-part first second minimum) q later of-pair
 
   module _ (z : q ≡ 0) where
-    pub first-short-of : length first ≤ 2048
-    first-short-of = comparable first second minimum 0 (sym of-pair ∙ z) .first-short
-
-    pub second-short-of : length second ≤ 2048
-    second-short-of = comparable first second minimum 0 (sym of-pair ∙ z) .second-short
-
-    pub minimum-of : 1 ≤ minimum
-    minimum-of = comparable first second minimum 0 (sym of-pair ∙ z) .least
+    pub comparable-of : Comparable first second minimum
+    comparable-of = comparable first second minimum 0 (sym of-pair ∙ z)
 
     pub later-decides : (later r : ℕ) → r ≡ later → r ≡ sequences first second (minimums minimum later)
     later-decides later r = part-goes _ (comparable-part first second minimum) q r later of-pair z

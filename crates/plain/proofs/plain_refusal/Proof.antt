@@ -1,6 +1,6 @@
 -- `plain::plain_refusal` meets its contract: a cause of the pair stops the chain, and then the room decides.
 -- Assumes nothing.
-use Rattle.tiling.proofs.Comparing.{pair-refused, first-short-of, second-short-of, minimum-of, later-decides}
+use Rattle.tiling.proofs.Comparing.{pair-refused, comparable-of, later-decides}
 use borrow.Author.Needs.{needs}
 use Rattle.plain.proofs.plain_refusal.Statement.{statement}
 use Rattle.plain.proofs.plain_refusal.Tie as tie
@@ -12,7 +12,7 @@ returns : tie.Need-returns
 returns c = search pair-refused
 
 room-refusal-requires : tie.Need-room-refusal-requires
-room-refusal-requires c κs = (search first-short-of, search second-short-of, search minimum-of)
+room-refusal-requires c κs = search comparable-of
 
 returns-2 : tie.Need-returns-2
 returns-2 c = search later-decides

@@ -1,6 +1,6 @@
 -- `search::fast_refusal` meets its contract: a cause of the pair stops the chain, then one of the settings, and then the room decides.
 -- Assumes nothing.
-use Rattle.tiling.proofs.Comparing.{pair-refused, first-short-of, second-short-of, minimum-of, settings-refused, last-decides}
+use Rattle.tiling.proofs.Comparing.{pair-refused, comparable-of, settings-refused, last-decides}
 use borrow.Author.Needs.{needs}
 use Rattle.search.proofs.fast_refusal.Statement.{statement}
 use Rattle.search.proofs.fast_refusal.Tie as tie
@@ -18,7 +18,7 @@ returns-2 : tie.Need-returns-2
 returns-2 c = search settings-refused
 
 room-refusal-requires : tie.Need-room-refusal-requires
-room-refusal-requires c κs = (search first-short-of, search second-short-of, search minimum-of)
+room-refusal-requires c κs = search comparable-of
 
 returns-3 : tie.Need-returns-3
 returns-3 c = search last-decides
