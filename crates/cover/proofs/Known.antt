@@ -7,10 +7,11 @@ use Rattle.buffer.specs.Buffer.{tabulate}
 use Rattle.tiling.specs.Run.{run, mark}
 use Rattle.tiling.specs.Greedy.{peak, greedy}
 use Rattle.tiling.specs.Tiling.{bestText, rowLength, best, lay, tiling}
-use Rattle.tiling.specs.Listing.{firstIsPattern, listing, covered}
+use Rattle.tiling.specs.Choice.{firstByWords, firstIsPattern}
+use Rattle.tiling.specs.Listing.{listing, covered}
 use Rattle.tiling.specs.Known.{same, shorter, longer}
 use Rattle.cover.specs.Known.{holds, all-hold, cases}
 
 pub known : all-hold cases ≡ true
-unfolding tabulate kind low code isCall matches run mark peak greedy bestText rowLength best lay tiling firstIsPattern listing covered same shorter longer holds all-hold cases
+unfolding tabulate kind low code isCall matches run mark peak greedy bestText rowLength best lay tiling firstByWords firstIsPattern listing covered same shorter longer holds all-hold cases
 known = refl

@@ -1,2 +1,3 @@
+pub mod Choosing
 pub mod Opening
 pub mod Closing

@@ -7,8 +7,6 @@ use native.Mathlib.Omega.{arith}
 use mathlib.Core.Path.{_≡_, refl, sym, _∙_, ap, subst}
 use mathlib.Core.Bool.{Bool, true, false}
 use mathlib.Core.List.{List, [], _++_, map, append-assoc, append-nil}
-use borrow.Author.Tests.{leb-true, leb-false}
-use lib.Dec.{leb}
 use lib.ListN.{length, take, drop, length-take, length-map}
 use lib.Seq.{take-at, drop-at}
 use Rattle.symbol.specs.Word.{isCall}
@@ -17,9 +15,11 @@ use Rattle.buffer.proofs.Buffer.{onto-part}
 use Rattle.tiling.specs.Tiling.{start, best, size, lay, tiling}
 use Rattle.tiling.specs.Greedy.{Greedy, done}
 use Rattle.tiling.specs.Comparing.{Comparable, Roomy}
-use Rattle.tiling.specs.Listing.{firstIsPattern, listing, tileWords, covered}
+use Rattle.tiling.specs.Choice.{firstIsPattern}
+use Rattle.tiling.specs.Listing.{listing, tileWords, covered}
 use Rattle.tiling.proofs.Tally.{tally-length}
 use Rattle.tiling.proofs.Greedy.{only}
+use Rattle.tiling.proofs.Choice.{first-shorter, second-shorter}
 use Rattle.tiling.proofs.Tiling.{tiling-greedy}
 use Rattle.tile.specs.Listed.{listed}
 use Rattle.sweep.specs.Workspace.{state}
@@ -36,10 +36,6 @@ copied-in pattern text ws ws₁ part e k =
     rw (k, n, e) (onto-part pattern text ws (length pattern) refl)
 
 -- ---- which sequence is the pattern
-pub pattern-test : (first second : List ℕ) → leb (length first) (length second) ≡ firstIsPattern first second
-unfolding firstIsPattern
-pattern-test first second = refl
-
 module _ (first second : List ℕ) (minimum : ℕ) (b : Bool) (e : b ≡ firstIsPattern first second) (ws ws' : List ℕ) where
   pub opened-first : b ≡ true → ws' ≡ onto (first ++ second) ws → Opened first second minimum ws (record { n = length first; m = length second; minimum = minimum; straight = true }) ws'
   unfolding patternOf textOf
@@ -60,12 +56,12 @@ module _ (first second : List ℕ) where
     pub together : length (patternOf first second) + length (textOf first second) ≡ length first + length second
 
   pub chosen-lengths : Chosen
-  unfolding patternOf textOf firstIsPattern
+  unfolding patternOf textOf
   chosen-lengths = go (firstIsPattern first second) refl
     where
       go : (t : Bool) → firstIsPattern first second ≡ t → Chosen
-      go true e = record { shorter = rw (patternOf, e) (omega (arith, leb-true (length first) (length second) e)); together = rw (patternOf, textOf, e) refl }
-      go false e = record { shorter = rw (patternOf, e) (omega (arith, leb-false (length first) (length second) e)); together = rw (patternOf, textOf, e) (omega arith) }
+      go true e = record { shorter = rw (patternOf, e) (omega (arith, first-shorter first second e)); together = rw (patternOf, textOf, e) refl }
+      go false e = record { shorter = rw (patternOf, e) (omega (arith, second-shorter first second e)); together = rw (patternOf, textOf, e) (omega arith) }
 
   -- The listing is the tiling of pattern and text, each tile listed by which of them was first.
   listing-is : (minimum : ℕ) → listing first second minimum ≡ map (listed (firstIsPattern first second)) (tiling minimum (start (patternOf first second) (textOf first second)))

@@ -5,7 +5,8 @@ use mathlib.Core.Path.{_≡_}
 use mathlib.Core.List.{List, _++_}
 use lib.ListN.{length, replicate}
 use Rattle.buffer.specs.Buffer.{onto}
-use Rattle.tiling.specs.Listing.{firstIsPattern, score}
+use Rattle.tiling.specs.Choice.{firstIsPattern}
+use Rattle.tiling.specs.Listing.{score}
 use Rattle.tiling.specs.declared.Compared.{Compared}
 use Rattle.sweep.specs.declared.Job.{Job}
 use Rattle.sweep.specs.declared.Totals.{Totals}

@@ -9,14 +9,27 @@ ghost use mathlib.Core.List.{_++_};
 ghost use Prim.Native.Nat.{_+_, _≤_};
 ghost use lib.ListN.{length};
 ghost use Rattle.buffer.specs.Buffer.{onto};
-ghost use Rattle.tiling.specs.Listing.{firstIsPattern};
+ghost use Rattle.tiling.specs.Choice.{firstIsPattern};
 ghost use Rattle.ends.specs.Ends.{Opened, refusedBy, Closed};
 
-// Whether the first sequence is the pattern: the shorter one is, and of equal lengths the first.
+// Whether the first sequence is the pattern: the shorter one is, and of equal lengths the one with the smaller word at the first position where
+// they differ. Of equal sequences it is the first.
 fn first_is_pattern(first: &[u32], second: &[u32]) -> bool
     ensures { λ r. ⌜ r ≡ firstIsPattern (now (first .entry)) (now (second .entry)) ⌝ }
 {
-    first.len() <= second.len()
+    if first.len() != second.len() {
+        return first.len() < second.len();
+    }
+    let mut i = 0;
+    while i < first.len() {
+        let a = first[i];
+        let b = second[i];
+        if a != b {
+            return a < b;
+        }
+        i += 1;
+    }
+    true
 }
 
 // Puts pattern and text to the start of the workspace.

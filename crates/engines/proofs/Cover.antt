@@ -59,15 +59,14 @@ module _ {first second : List ℕ} (buckets start : ℕ) {ws b es : List ℕ} {a
   cover-falls i j h l =
       rw (cover-entry i (omega arith), cover-entry j l) (covered-falls first second (i + 1) (j + 1) (omega arith) (omega arith))
 
--- With the sequences exchanged, where the lengths differ: the call is accepted wherever there is room and its settings are in range, and its
--- entries are the same.
-pub cover-exchange : {first second : List ℕ} (buckets buckets' start start' : ℕ) {ws b es ws₁ b₁ es₁ : List ℕ} {a a' : Compared} {ws' b' es' ws₁' b₁' es₁' : List ℕ} → EveryMinimum first second buckets start ws b es a ws' b' es' → EveryMinimum second first buckets' start' ws₁ b₁ es₁ a' ws₁' b₁' es₁' → a .refusal ≡ 0 → InRange 1 buckets' start' → Roomy (length second) (length first) 1 (length ws₁) (length b₁) → 256 ≤ length es₁ → (length first ≡ length second → ⊥) → CoverExchanges a b' es' a' b₁' es₁'
-cover-exchange {first} {second} buckets buckets' start start' {ws₁ = ws₁} {b₁ = b₁} {es₁ = es₁} {a' = a'} c c' z i r room d =
+-- With the sequences exchanged: the call is accepted wherever there is room and its settings are in range, and its entries are the same.
+pub cover-exchange : {first second : List ℕ} (buckets buckets' start start' : ℕ) {ws b es ws₁ b₁ es₁ : List ℕ} {a a' : Compared} {ws' b' es' ws₁' b₁' es₁' : List ℕ} → EveryMinimum first second buckets start ws b es a ws' b' es' → EveryMinimum second first buckets' start' ws₁ b₁ es₁ a' ws₁' b₁' es₁' → a .refusal ≡ 0 → InRange 1 buckets' start' → Roomy (length second) (length first) 1 (length ws₁) (length b₁) → 256 ≤ length es₁ → CoverExchanges a b' es' a' b₁' es₁'
+cover-exchange {first} {second} buckets buckets' start start' {ws₁ = ws₁} {b₁ = b₁} {es₁ = es₁} {a' = a'} c c' z i r room =
     let k = accepted-here buckets start c z in
     let n : coverRefusal second first buckets' start' (length ws₁) (length b₁) (length es₁) ≡ 0 =
     fast-passes second first 1 (length ws₁) (length b₁) (comparable-exchange (k .can)) r buckets' start' _ i ∙ rw (le-ltb (length es₁) 256 room) refl in
     let z' : a' .refusal ≡ 0 = ap (λ x. x .refusal) (c' .compares .answer) ∙ n in
     record {
-      exchanges = answers-exchange (c .compares) (c' .compares) (n ∙ sym (number buckets start c z)) d;
-      entries = λ k h. cover-entry buckets' start' c' z' k h ∙ (exchange-covered first second (k + 1) d ∙ sym (cover-entry buckets start c z k h));
+      exchanges = answers-exchange (c .compares) (c' .compares) (n ∙ sym (number buckets start c z));
+      entries = λ k h. cover-entry buckets' start' c' z' k h ∙ (exchange-covered first second (k + 1) ∙ sym (cover-entry buckets start c z k h));
     }

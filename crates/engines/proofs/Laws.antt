@@ -11,14 +11,15 @@ use lib.Dec.{eqb, ltb}
 use lib.ListN.{length}
 use Rattle.symbol.specs.Sequence.{allSound, tooLong}
 use Rattle.symbol.specs.Refusal.{refuse}
+use Rattle.tiling.specs.Each.{Each}
 use Rattle.tiling.specs.Greedy.{Begins}
 use Rattle.tiling.specs.Comparing.{sequences, minimums, room, plainRefusal, fastRefusal, Comparable, Roomy}
 use Rattle.tiling.specs.Answer.{Compares}
-use Rattle.tiling.specs.Demand.{long, tilesOf, Demands, Exchanges}
+use Rattle.tiling.specs.Demand.{long, tilesOf, EqualStarts, Demands, Exchanges}
 use Rattle.tiling.specs.declared.Compared.{Compared}
 use Rattle.tiling.proofs.Comparing.{comparable, fast-in-range, in-range-passes, plain-accepts, fast-passes, comparable-exchange, plain-refusal-exchange, fast-checks-exchange}
 use Rattle.tiling.proofs.Demand.{covered-falls, score-falls}
-use Rattle.tiling.proofs.Answers.{answers-number, answers-covered, answers-demands, answers-exchange, answers-begin}
+use Rattle.tiling.proofs.Answers.{answers-number, answers-covered, answers-demands, answers-equal, answers-exchange, answers-begin}
 use Rattle.plain.specs.Promise.{Plain}
 use Rattle.search.specs.Promise.{Fast}
 use Rattle.engines.specs.Engine.{Engine, plain, fast, Promise, refusalBy, OwnRefusal, SetFor}
@@ -61,6 +62,10 @@ module _ (e : Engine) {first second : List ℕ} {minimum : ℕ} {ws b : List ℕ
   -- All that demand 3 and 01 say of the answer and of the tiles listed.
   pub engine-demands : Demands first second minimum a b'
   engine-demands = answers-demands c accepted accepted-comparable
+
+-- A sequence with itself, handed in twice: each tile has equal starts.
+pub engine-equal-starts : (e : Engine) {s : List ℕ} {minimum : ℕ} {ws b : List ℕ} {a : Compared} {ws' b' : List ℕ} → Promise e s s minimum ws b a ws' b' → Each EqualStarts (tilesOf a b')
+engine-equal-starts e c = answers-equal c
 
 -- ---- two calls on equal input, by any two engines
 -- A record that gives everything outright has one solution.
@@ -128,17 +133,17 @@ module _ (e e' : Engine) {first second : List ℕ} {minimum : ℕ} {ws b : List 
   pub accepted-equal : a .refusal ≡ 0 → SetFor e' minimum → Equal a ws' b' a' ws₁ b₁
   accepted-equal z = in-range-equal (set-known e first second minimum (length ws) (length b) (number e c z))
 
--- ---- the sequences exchanged, where the lengths differ
+-- ---- the sequences exchanged
 module _ (e e' : Engine) {first second : List ℕ} {minimum : ℕ} {ws b ws₁ b₁ : List ℕ} {a a' : Compared} {ws' b' ws₁' b₁' : List ℕ} (c : Promise e first second minimum ws b a ws' b') (c' : Promise e' second first minimum ws₁ b₁ a' ws₁' b₁') where
   -- What one engine accepts any engine accepts exchanged, wherever it has room and its settings are in range; and it only has the sides of each
   -- tile exchanged.
-  pub engines-exchange : a .refusal ≡ 0 → SetFor e' minimum → Roomy (length second) (length first) minimum (length ws₁) (length b₁) → (length first ≡ length second → ⊥) → Exchanges a b' a' b₁'
+  pub engines-exchange : a .refusal ≡ 0 → SetFor e' minimum → Roomy (length second) (length first) minimum (length ws₁) (length b₁) → Exchanges a b' a' b₁'
   engines-exchange z s r =
       answers-exchange c c'
       (accepts e' second first minimum (length ws₁) (length b₁) (comparable-exchange (accepted-comparable e c z)) r s ∙ sym (number e c z))
 
 -- The same engine with the same settings, and a workspace and a tile buffer of the same sizes, refuses for the same cause, too.
-pub exchange-alike : (e : Engine) {first second : List ℕ} {minimum : ℕ} {ws b ws₁ b₁ : List ℕ} {a a' : Compared} {ws' b' ws₁' b₁' : List ℕ} → Promise e first second minimum ws b a ws' b' → Promise e second first minimum ws₁ b₁ a' ws₁' b₁' → length ws₁ ≡ length ws → length b₁ ≡ length b → (length first ≡ length second → ⊥) → Exchanges a b' a' b₁'
+pub exchange-alike : (e : Engine) {first second : List ℕ} {minimum : ℕ} {ws b ws₁ b₁ : List ℕ} {a a' : Compared} {ws' b' ws₁' b₁' : List ℕ} → Promise e first second minimum ws b a ws' b' → Promise e second first minimum ws₁ b₁ a' ws₁' b₁' → length ws₁ ≡ length ws → length b₁ ≡ length b → Exchanges a b' a' b₁'
 exchange-alike e {first} {second} {minimum} {ws} {b} c c' w t =
     answers-exchange c c' (rw (w, t) (refusal-exchange e second first minimum (length ws) (length b)))
 

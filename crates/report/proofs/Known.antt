@@ -9,7 +9,8 @@ use Rattle.record.specs.Reading.{closes}
 use Rattle.tiling.specs.Run.{run, mark}
 use Rattle.tiling.specs.Greedy.{peak, greedy}
 use Rattle.tiling.specs.Tiling.{bestText, rowLength, best, lay, tiling}
-use Rattle.tiling.specs.Listing.{firstIsPattern, listing, covered, score, shift}
+use Rattle.tiling.specs.Choice.{firstByWords, firstIsPattern}
+use Rattle.tiling.specs.Listing.{listing, covered, score, shift}
 use Rattle.tiling.specs.Known.{same, shorter, longer}
 use Rattle.lines.specs.Text.{ascii, digits, decimal, signed, spaced}
 use Rattle.report.specs.Words.{wordsOf}
@@ -17,5 +18,5 @@ use Rattle.report.specs.Pair.{refusedLine, shiftEnd, tileLine, tileLines
 use Rattle.report.specs.Known.{bytesOf, first, second, cases, all-hold}
 
 pub known : all-hold cases ≡ true
-unfolding kind low code isCall isNoCall isSound matches allSound idOf countOf sumLow checksum closes run mark peak greedy bestText rowLength best lay tiling firstIsPattern listing covered score shift same shorter longer ascii digits decimal signed spaced wordsOf refusedLine shiftEnd tileLine tileLines opening closing pairLines fromPair fromSecond fromFirst fromWords pairReport bytesOf first second cases all-hold
+unfolding kind low code isCall isNoCall isSound matches allSound idOf countOf sumLow checksum closes run mark peak greedy bestText rowLength best lay tiling firstByWords firstIsPattern listing covered score shift same shorter longer ascii digits decimal signed spaced wordsOf refusedLine shiftEnd tileLine tileLines opening closing pairLines fromPair fromSecond fromFirst fromWords pairReport bytesOf first second cases all-hold
 known = refl

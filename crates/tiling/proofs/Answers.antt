@@ -7,13 +7,14 @@ use mathlib.Core.Path.{_≡_, refl, sym, _∙_, ap}
 use mathlib.Core.List.{List, [], map}
 use lib.ListN.{length, replicate}
 use Rattle.symbol.specs.Refusal.{outcome}
+use Rattle.tiling.specs.Each.{Each, none}
 use Rattle.tiling.specs.Greedy.{Begins}
 use Rattle.tiling.specs.Listing.{Entry, listing, covered}
 use Rattle.tiling.specs.Comparing.{Comparable}
 use Rattle.tiling.specs.declared.Compared.{Compared}
 use Rattle.tiling.specs.Answer.{compared, tileBuffer, Compares}
-use Rattle.tiling.specs.Demand.{long, exchanged, tilesIn, tilesOf, Tiled, Demands, Exchanges}
-use Rattle.tiling.proofs.Demand.{listing-tiled, listing-begins, exchange, exchange-count, exchange-covered, exchange-score}
+use Rattle.tiling.specs.Demand.{long, exchanged, EqualStarts, tilesIn, tilesOf, Tiled, Demands, Exchanges}
+use Rattle.tiling.proofs.Demand.{listing-tiled, listing-begins, equal-starts, exchange, exchange-count, exchange-covered, exchange-score}
 use Rattle.tiling.proofs.Shift.{tiled-shift}
 use Rattle.tiling.proofs.Tiles.{tiles-read}
 
@@ -62,20 +63,29 @@ module _ {r : ℕ} {first second : List ℕ} {minimum : ℕ} {ws b : List ℕ} {
         within-second = omega (arith, covered-listed, tiled .within-second);
       }
 
+-- ---- a sequence with itself
+equal-outcome : (r : ℕ) {tiles : List Entry} → Each EqualStarts tiles → Each EqualStarts (outcome r tiles [])
+equal-outcome zero h = h
+equal-outcome (suc r) h = none
+
+-- Each tile has equal starts.
+pub answers-equal : {r : ℕ} {s : List ℕ} {minimum : ℕ} {ws b : List ℕ} {a : Compared} {ws' b' : List ℕ} → Compares r s s minimum ws b a ws' b' → Each EqualStarts (tilesOf a b')
+answers-equal {r = r} {s = s} {minimum = minimum} c = rw (listed c) (equal-outcome r (equal-starts s minimum))
+
 -- ---- two comparisons with the sequences exchanged
 exchanged-outcome : (r : ℕ) (tiles : List Entry) → outcome r (map exchanged tiles) [] ≡ map exchanged (outcome r tiles [])
 exchanged-outcome zero tiles = refl
 exchanged-outcome (suc r) tiles = refl
 
--- Where the numbers of their refusals are equal, and the lengths differ, the second has the sides of each tile exchanged.
-pub answers-exchange : {r r' : ℕ} {first second : List ℕ} {minimum : ℕ} {ws b ws₁ b₁ : List ℕ} {a a' : Compared} {ws' b' ws₁' b₁' : List ℕ} → Compares r first second minimum ws b a ws' b' → Compares r' second first minimum ws₁ b₁ a' ws₁' b₁' → r' ≡ r → (length first ≡ length second → ⊥) → Exchanges a b' a' b₁'
-answers-exchange {r = r} {first = first} {second = second} {minimum = minimum} c c' e d =
+-- Where the numbers of their refusals are equal, the second has the sides of each tile exchanged.
+pub answers-exchange : {r r' : ℕ} {first second : List ℕ} {minimum : ℕ} {ws b ws₁ b₁ : List ℕ} {a a' : Compared} {ws' b' ws₁' b₁' : List ℕ} → Compares r first second minimum ws b a ws' b' → Compares r' second first minimum ws₁ b₁ a' ws₁' b₁' → r' ≡ r → Exchanges a b' a' b₁'
+answers-exchange {r = r} {first = first} {second = second} {minimum = minimum} c c' e =
     record {
       refusal = rw (c .answer, c' .answer) e;
-      sides = listed c' ∙ (rw (e, exchange first second minimum d) (exchanged-outcome r (listing first second minimum)) ∙ ap (λ es. map exchanged es) (sym (listed c)));
-      tiles = rw (c .answer, c' .answer, e, exchange-count first second minimum d) refl;
-      covered = rw (c .answer, c' .answer, e, exchange-covered first second minimum d) refl;
-      score = rw (c .answer, c' .answer, e, exchange-score first second minimum d) refl;
+      sides = listed c' ∙ (rw (e, exchange first second minimum) (exchanged-outcome r (listing first second minimum)) ∙ ap (λ es. map exchanged es) (sym (listed c)));
+      tiles = rw (c .answer, c' .answer, e, exchange-count first second minimum) refl;
+      covered = rw (c .answer, c' .answer, e, exchange-covered first second minimum) refl;
+      score = rw (c .answer, c' .answer, e, exchange-score first second minimum) refl;
     }
 
 -- ---- two accepted comparisons of one pair, at a minimum and at a greater one

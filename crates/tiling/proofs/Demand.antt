@@ -1,27 +1,29 @@
 -- Demand 3 of the listing. The laws are those of the tiling with the first sequence as the pattern; turning the sides of each tile and
--- of the sequences keeps them, so they hold whichever sequence is the pattern. Where the lengths differ the pattern is the same
--- sequence either way, so exchanging the sequences only turns the sides.
+-- of the sequences keeps them, so they hold whichever sequence is the pattern. Of two sequences that are not equal the pattern is the same one
+-- either way, and the tiles of a sequence with itself have equal starts, so exchanging the sequences only turns the sides.
 -- Assumes nothing.
 use Prim.Native.Nat.{ℕ, zero, suc, _+_, _*_, _/_, _≤_, _<_, _^_, min}
 use native.Mathlib.Nat.{add-comm, mul-comm, suc-mul, mul-div-le, le-div-iff-mul-le}
-use native.Mathlib.Decide.{decLt}
 use native.Mathlib.Omega.{arith}
 use mathlib.Core.Path.{_≡_, refl, sym, _∙_, ap}
-use mathlib.Core.Bool.{Bool, true, false}
+use mathlib.Core.Bool.{Bool, true, false, not}
 use mathlib.Core.List.{List, [], _∷_, _++_, map, map-map, map-append}
-use borrow.Author.Tests.{le-leb, lt-leb}
+use mathlib.Core.Logic.{_⊎_, inl, inr}
 use lib.ListN.{length, drop, length-map}
 use lib.Seq.{getD-drop}
 use Rattle.symbol.proofs.Word.{match-swap}
 use Rattle.tiling.specs.Each.{Each, none, also, Pairs}
 use Rattle.tiling.specs.Greedy.{after, Begins}
 use Rattle.tiling.specs.Tiling.{Tile, Lies, start, size, lay, tiling}
-use Rattle.tiling.specs.Listing.{Entry, firstIsPattern, straight, crossed, listing, covered, score}
-use Rattle.tiling.specs.Demand.{FreeRun, Stands, Apart, onFirst, onSecond, long, smallerCounts, exchanged, Tiled}
+use Rattle.tiling.specs.Choice.{firstIsPattern}
+use Rattle.tiling.specs.Listing.{Entry, straight, crossed, listing, covered, score}
+use Rattle.tiling.specs.Demand.{FreeRun, Stands, Apart, onFirst, onSecond, long, smallerCounts, exchanged, EqualStarts, Tiled}
 use Rattle.tiling.proofs.Run.{run-least}
 use Rattle.tiling.proofs.Each.{each-map, each-unmap, pairs-map}
 use Rattle.tiling.proofs.Tiling.{tiles-lie}
 use Rattle.tiling.proofs.Left.{tiling-complete, tiling-falls, pattern-left, text-left, tiling-apart-pattern, tiling-apart-text, covered-pattern, covered-text, tiling-long, tiling-begins}
+use Rattle.tiling.proofs.Choice.{pattern-turn}
+use Rattle.tiling.proofs.Itself.{tiling-itself}
 use Rattle.tiling.proofs.Codes.{smaller-same, at-one, code-below}
 
 -- ---- the first sequence as the pattern
@@ -121,31 +123,43 @@ exchanged-twice : (tiles : List Entry) → map exchanged (map exchanged tiles) �
 exchanged-twice [] = refl
 exchanged-twice (e ∷ tiles) = ap (λ es. e ∷ es) (exchanged-twice tiles)
 
-exchange-less : (first second : List ℕ) (minimum : ℕ) → length first < length second → listing second first minimum ≡ map exchanged (listing first second minimum)
-unfolding firstIsPattern
-exchange-less first second minimum h =
-    let l : length first ≤ length second = omega arith in
-    listing-crossed second first minimum (lt-leb _ _ h) ∙ ap (λ es. map exchanged es) (sym (listing-straight first second minimum (le-leb _ _ l)))
-
--- "If the lengths differ, exchanging the strands .. only exchanges the sides of each tile".
-pub exchange : (first second : List ℕ) (minimum : ℕ) → (length first ≡ length second → ⊥) → listing second first minimum ≡ map exchanged (listing first second minimum)
-exchange first second minimum d = go (decLt (length first) (length second))
+-- A sequence with itself: each listed tile has equal starts, so exchanging its sides leaves it as it is.
+pub equal-starts : (s : List ℕ) (minimum : ℕ) → Each EqualStarts (listing s s minimum)
+equal-starts s minimum = go (firstIsPattern s s) refl
   where
-    go : Dec (length first < length second) → listing second first minimum ≡ map exchanged (listing first second minimum)
-    go (yes h) = exchange-less first second minimum h
-    go (no h) =
-        let l : length second < length first = omega (arith, h, d) in
-        sym (exchanged-twice (listing second first minimum)) ∙ ap (λ es. map exchanged es) (sym (exchange-less second first minimum l))
+    on-both : Each EqualStarts (map straight (tiling minimum (start s s)))
+    on-both = each-map straight (λ k h. h) (tiling-itself minimum s)
+
+    go : (b : Bool) → firstIsPattern s s ≡ b → Each EqualStarts (listing s s minimum)
+    go true e = rw (listing-straight s s minimum e) on-both
+    go false e = rw (listing-crossed s s minimum e) (each-map exchanged (λ k h. sym h) on-both)
+
+exchanged-equal : (tiles : List Entry) → Each EqualStarts tiles → map exchanged tiles ≡ tiles
+exchanged-equal [] none = refl
+exchanged-equal (e ∷ tiles) (also h r) =
+    ap (λ k. k ∷ map exchanged tiles) (λ i. record { first = sym h i; second = h i; len = e .len }) ∙ ap (λ es. e ∷ es) (exchanged-equal tiles r)
+
+-- "Exchanging the strands now only exchanges tile sides for all accepted pairs, equal lengths included."
+pub exchange : (first second : List ℕ) (minimum : ℕ) → listing second first minimum ≡ map exchanged (listing first second minimum)
+exchange first second minimum = go (pattern-turn first second) (firstIsPattern first second) refl
+  where
+    go : (firstIsPattern second first ≡ not (firstIsPattern first second)) ⊎ (first ≡ second) → (b : Bool) → firstIsPattern first second ≡ b → listing second first minimum ≡ map exchanged (listing first second minimum)
+    go (inl t) true e =
+        listing-crossed second first minimum (t ∙ ap not e) ∙ ap (λ es. map exchanged es) (sym (listing-straight first second minimum e))
+    go (inl t) false e =
+        listing-straight second first minimum (t ∙ ap not e)
+        ∙ (sym (exchanged-twice _) ∙ ap (λ es. map exchanged es) (sym (listing-crossed first second minimum e)))
+    go (inr s) b e = rw s (sym (exchanged-equal (listing second second minimum) (equal-starts second minimum)))
 
 -- "order, lengths, tile count, covered and score are equal."
-pub exchange-count : (first second : List ℕ) (minimum : ℕ) → (length first ≡ length second → ⊥) → length (listing second first minimum) ≡ length (listing first second minimum)
-exchange-count first second minimum d = rw (exchange first second minimum d) (length-map (listing first second minimum) exchanged)
+pub exchange-count : (first second : List ℕ) (minimum : ℕ) → length (listing second first minimum) ≡ length (listing first second minimum)
+exchange-count first second minimum = rw (exchange first second minimum) (length-map (listing first second minimum) exchanged)
 
-pub exchange-covered : (first second : List ℕ) (minimum : ℕ) → (length first ≡ length second → ⊥) → covered (listing second first minimum) ≡ covered (listing first second minimum)
-exchange-covered first second minimum d = rw (exchange first second minimum d) (covered-exchanged (listing first second minimum))
+pub exchange-covered : (first second : List ℕ) (minimum : ℕ) → covered (listing second first minimum) ≡ covered (listing first second minimum)
+exchange-covered first second minimum = rw (exchange first second minimum) (covered-exchanged (listing first second minimum))
 
-pub exchange-score : (first second : List ℕ) (minimum : ℕ) → (length first ≡ length second → ⊥) → score (covered (listing second first minimum)) (length second + length first) ≡ score (covered (listing first second minimum)) (length first + length second)
-exchange-score first second minimum d = rw (exchange-covered first second minimum d, add-comm (length second) (length first)) refl
+pub exchange-score : (first second : List ℕ) (minimum : ℕ) → score (covered (listing second first minimum)) (length second + length first) ≡ score (covered (listing first second minimum)) (length first + length second)
+exchange-score first second minimum = rw (exchange-covered first second minimum, add-comm (length second) (length first)) refl
 
 -- ---- the laws of the listing one by one
 pub no-free-run : (first second : List ℕ) (minimum : ℕ) → 1 ≤ minimum → (i j : ℕ) → FreeRun first second (listing first second minimum) minimum i j → ⊥

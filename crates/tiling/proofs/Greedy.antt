@@ -56,6 +56,17 @@ module _ {S K : Type 0} (best : S → K) (size : K → ℕ) (lay : S → K → S
   unfolding greedy
   greedy-more fuel minimum s h = rw (greedy, le-leb minimum (size (best s)) h) refl
 
+  -- What holds of the best in every state that is reached holds of all that are laid, however far the fuel goes.
+  module _ (Reached : S → Type 0) (Q : K → Type 0) (holds : (s : S) → Reached s → Q (best s)) (keeps : (s : S) → Reached s → Reached (lay s (best s))) where
+    pub greedy-each : (fuel minimum : ℕ) (s : S) → Reached s → Each Q (greedy best size lay fuel minimum s)
+    unfolding greedy
+    greedy-each zero minimum s r = none
+    greedy-each (suc fuel) minimum s r = go (greedy-each fuel minimum (lay s (best s)) (keeps s r)) (decLe minimum (size (best s)))
+      where
+        go : Each Q (greedy best size lay fuel minimum (lay s (best s))) → Dec (minimum ≤ size (best s)) → Each Q (greedy best size lay (suc fuel) minimum s)
+        go rest (yes k) = rw (greedy-more fuel minimum s k) (also (holds s r) rest)
+        go rest (no k) = let l : size (best s) < minimum = omega (arith, k) in rw (greedy-done (suc fuel) minimum s l) none
+
   module _ (measure : S → ℕ) (falls : (s : S) → 1 ≤ size (best s) → measure (lay s (best s)) < measure s) where
     -- The function's list is the one that the relation gives, where the fuel is at least the measure.
     pub greedy-meets : (minimum : ℕ) → 1 ≤ minimum → (fuel : ℕ) (s : S) → measure s ≤ fuel → Greedy best size lay minimum s (greedy best size lay fuel minimum s)

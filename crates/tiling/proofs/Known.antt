@@ -8,9 +8,10 @@ use Rattle.window.specs.Hash.{weigh, hash}
 use Rattle.tiling.specs.Run.{run, mark}
 use Rattle.tiling.specs.Greedy.{peak, greedy}
 use Rattle.tiling.specs.Tiling.{bestText, rowLength, best, lay, tiling}
-use Rattle.tiling.specs.Listing.{firstIsPattern, listing, tileWords, covered, score, shift}
+use Rattle.tiling.specs.Choice.{firstByWords, firstIsPattern}
+use Rattle.tiling.specs.Listing.{listing, tileWords, covered, score, shift}
 use Rattle.tiling.specs.Known.{same, sameℤ, shifted, holds, all-hold, shorter, longer, cases}
 
 pub known : all-hold cases ≡ true
-unfolding tabulate weigh hash kind low code isCall matches run mark peak greedy bestText rowLength best lay tiling firstIsPattern listing tileWords covered score shift same sameℤ shifted holds all-hold shorter longer cases
+unfolding tabulate weigh hash kind low code isCall matches run mark peak greedy bestText rowLength best lay tiling firstByWords firstIsPattern listing tileWords covered score shift same sameℤ shifted holds all-hold shorter longer cases
 known = refl

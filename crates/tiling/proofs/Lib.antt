@@ -10,6 +10,8 @@ pub mod Covered
 pub mod Tiling
 pub mod Left
 pub mod Codes
+pub mod Choice
+pub mod Itself
 pub mod Demand
 pub mod Shift
 pub mod Tiles

@@ -92,6 +92,10 @@ pub record Tiled (first second : List ℕ) (minimum : ℕ) (tiles : List Entry) 
 abbrev pub exchanged : Entry → Entry
 exchanged e = record { first = e .second; second = e .first; len = e .len }
 
+-- A tile that starts at one position of both sequences: what every tile of a sequence with itself does.
+abbrev pub EqualStarts : Entry → Type 0
+EqualStarts e = e .first ≡ e .second
+
 -- The first n tiles of a tile buffer. "A tile is three words in the tile buffer: start on the first strand, start on the second
 -- strand, length."
 unfoldable pub tilesIn : ℕ → List ℕ → List Entry

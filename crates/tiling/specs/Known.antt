@@ -1,12 +1,14 @@
--- The pairs K1 to K11 and the windows K12 of 01 as one list of cases, and the test that each comes out as written. Two cases are
--- ours: the shifts of 01's worked example, and a pair that would come out otherwise if the text were not marked.
+-- The pairs K1 to K11 and the windows K12 of 01 as one list of cases, and the test that each comes out as written. The cases after them
+-- are ours: the shifts of 01's worked example, a pair that would come out otherwise if the text were not marked, and pairs of equal
+-- length, in which the words choose the pattern.
 use Prim.Native.Nat.{ℕ, _+_, _^_}
-use mathlib.Core.Bool.{Bool, true, false, _&&_}
+use mathlib.Core.Bool.{Bool, true, false, not, _&&_}
 use mathlib.Core.List.{List, [], _∷_}
 use lib.Dec.{eqb}
 use lib.IntN.{ℤ, pos, negsuc, negℤ}
 use lib.ListN.{length}
 use Rattle.window.specs.HashList.{hashes}
+use Rattle.tiling.specs.Choice.{firstIsPattern}
 use Rattle.tiling.specs.Listing.{Entry, listing, tileWords, covered, score, shift}
 
 -- "Writing a to d for calls of codes 1 to 4 .. e is code 5, ? a no-call."
@@ -29,11 +31,12 @@ abbrev pub no-call : ℕ
 no-call = 2 ^ 31
 
 -- A pair with its minimum: the words of its tile buffer, covered and score, or the shifts of its tiles. Words with a multiplier and a
--- window length: the hashes of their windows.
+-- window length: the hashes of their windows. A pair: whether its first sequence is the pattern.
 pub data Case : Type 0 where
   pair : (first second : List ℕ) (minimum : ℕ) (tiles : List ℕ) (covered score : ℕ) → Case
   moved : (first second : List ℕ) (minimum : ℕ) (shifts : List ℤ) → Case
   hashed : (multiplier window : ℕ) (words found : List ℕ) → Case
+  chosen : (first second : List ℕ) (first-is-pattern : Bool) → Case
 
 unfoldable pub same : List ℕ → List ℕ → Bool
 same [] [] = true
@@ -60,6 +63,8 @@ holds (pair first second minimum tiles sum points) =
     && eqb (score (covered (listing first second minimum)) (length first + length second)) points)
 holds (moved first second minimum shifts) = shifted (listing first second minimum) shifts
 holds (hashed multiplier window words found) = same (hashes multiplier window words) found
+holds (chosen first second true) = firstIsPattern first second
+holds (chosen first second false) = not (firstIsPattern first second)
 
 unfoldable pub all-hold : List Case → Bool
 all-hold [] = true
@@ -90,4 +95,15 @@ cases =
     ∷ hashed 0 3 (1 ∷ 2 ∷ 3 ∷ []) (3 ∷ [])  -- K12: 0
     ∷ pair (a ∷ a ∷ []) (a ∷ b ∷ []) 1 (0 ∷ 0 ∷ 1 ∷ []) 1 500  -- the text is marked too
     ∷ moved shorter longer 1 (pos 6 ∷ pos 4 ∷ negℤ (pos 3) ∷ [])  -- the shifts of K6
+    ∷ pair (b ∷ a ∷ []) (a ∷ b ∷ []) 1 (1 ∷ 0 ∷ 1 ∷ 0 ∷ 1 ∷ 1 ∷ []) 2 1000  -- K7 exchanged: its sides exchanged
+    ∷ pair (b ∷ b ∷ a ∷ b ∷ []) (a ∷ b ∷ b ∷ b ∷ []) 2 (2 ∷ 0 ∷ 2 ∷ 0 ∷ 2 ∷ 2 ∷ []) 4 1000  -- the smaller word chooses the second
+    ∷ pair (a ∷ b ∷ b ∷ b ∷ []) (b ∷ b ∷ a ∷ b ∷ []) 2 (0 ∷ 2 ∷ 2 ∷ 2 ∷ 0 ∷ 2 ∷ []) 4 1000  -- the same exchanged
+    ∷ pair (no-call ∷ a ∷ b ∷ []) (no-call ∷ b ∷ a ∷ []) 1 (1 ∷ 2 ∷ 1 ∷ 2 ∷ 1 ∷ 1 ∷ []) 2 666  -- no-calls do not match, nor differ
+    ∷ pair (no-call ∷ a ∷ b ∷ []) (c ∷ b ∷ a ∷ []) 1 (2 ∷ 1 ∷ 1 ∷ 1 ∷ 2 ∷ 1 ∷ []) 2 666  -- a no-call is greater than a call
+    ∷ pair (a ∷ a ∷ no-call ∷ a ∷ a ∷ []) (a ∷ a ∷ no-call ∷ a ∷ a ∷ []) 1 (0 ∷ 0 ∷ 2 ∷ 3 ∷ 3 ∷ 2 ∷ []) 4 800  -- equal: equal starts
+    ∷ chosen (a ∷ b ∷ a ∷ []) (a ∷ b ∷ b ∷ []) true  -- they differ at the last position only
+    ∷ chosen (a ∷ b ∷ b ∷ []) (a ∷ b ∷ a ∷ []) false
+    ∷ chosen (a ∷ c ∷ a ∷ []) (a ∷ b ∷ b ∷ []) false  -- the first difference counts, not the last
+    ∷ chosen (a ∷ no-call ∷ []) (a ∷ no-call ∷ []) true  -- none differs: the first
+    ∷ chosen (c ∷ []) (a ∷ b ∷ []) true  -- the shorter one, whatever its words
     ∷ []

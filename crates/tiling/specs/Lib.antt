@@ -3,6 +3,7 @@ pub mod Tally
 pub mod Run
 pub mod Greedy
 pub mod Tiling
+pub mod Choice
 pub mod Listing
 pub mod Comparing
 pub mod Answer

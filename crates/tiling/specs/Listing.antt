@@ -1,11 +1,10 @@
 -- The tiles as they are listed for the two sequences as handed in, and the numbers that a comparison answers.
 use Prim.Native.Nat.{ℕ, zero, suc, _+_, _*_, _/_}
-use mathlib.Core.Bool.{Bool, true, false}
+use mathlib.Core.Bool.{true, false}
 use mathlib.Core.List.{List, [], _∷_, map}
-use lib.Dec.{leb}
 use lib.IntN.{ℤ, pos, _-ℤ_}
-use lib.ListN.{length}
 use Rattle.tiling.specs.Tiling.{Tile, start, tiling}
+use Rattle.tiling.specs.Choice.{firstIsPattern}
 
 -- A listed tile: "start on the first strand, start on the second strand, length. First and second mean as handed in, not
 -- pattern and text."
@@ -13,10 +12,6 @@ pub record Entry : Type 0 where
   pub first : ℕ
   pub second : ℕ
   pub len : ℕ
-
--- "The pattern is the shorter strand, the text the longer. When lengths are equal the first strand is the pattern."
-unfoldable pub firstIsPattern : List ℕ → List ℕ → Bool
-firstIsPattern first second = leb (length first) (length second)
 
 abbrev pub straight : Tile → Entry
 straight k = record { first = k .p; second = k .t; len = k .len }
