@@ -27,8 +27,13 @@
  * into words as they are, and written from them.
  *
  * A tile is a stretch of words of both sequences that match one by one. The tiling always lays the longest that there is on words
- * not yet covered; of equally long ones the one that starts first in the shorter sequence, or in the first where both are as long,
- * and then the one that starts first in the other. It ends when there is none of at least the minimum length.
+ * not yet covered; of equally long ones the one that starts first in the pattern, and then the one that starts first in the text. It
+ * ends when there is none of at least the minimum length. The pattern is the shorter sequence, the text the longer. Of two sequences
+ * of equal length the pattern is the one with the smaller word, as an unsigned number, at the first position where they differ; so a
+ * no-call is greater than every call. Of equal sequences it is the first.
+ *
+ * So it does not matter which sequence is passed first: exchanging the two exchanges the two starts of each tile and changes nothing
+ * else. The order of the tiles, their lengths, their number, covered, score and every word of a cover are the same.
  *
  * Rules that hold for every function:
  *

@@ -134,6 +134,10 @@ pub const fn score(covered: usize, words: usize) -> u32 {
 /// each of at least `minimum` words, go to the start of `tiles`, whose other words keep their
 /// values; the whole workspace is zero afterwards, whatever it held.
 ///
+/// Of equally long tiles the one that starts first in the pattern is laid first. The pattern is the
+/// shorter sequence, and of two of equal length the one with the smaller word at the first position
+/// where they differ, so that it is the same one whichever is passed first.
+///
 /// Refused, in this order: [`TooLong`](Refusal::TooLong), [`Unsound`](Refusal::Unsound),
 /// [`Minimum`](Refusal::Minimum), [`Buckets`](Refusal::Buckets),
 /// [`SearchLength`](Refusal::SearchLength), [`Workspace`](Refusal::Workspace),
@@ -154,6 +158,11 @@ pub const fn score(covered: usize, words: usize) -> u32 {
 ///
 /// let laid = tiles(&buffer, answer.tiles).map(|tile| (tile.first, tile.second, tile.length));
 /// assert_eq!(Vec::from_iter(laid), [(2, 0, 3), (0, 3, 2)]);
+///
+/// // Exchanged, only the sides of each tile are exchanged.
+/// assert_eq!(compare(&second, &first, minimum, settings, &mut workspace, &mut buffer)?, answer);
+/// let laid = tiles(&buffer, answer.tiles).map(|tile| (tile.first, tile.second, tile.length));
+/// assert_eq!(Vec::from_iter(laid), [(0, 2, 3), (3, 0, 2)]);
 /// # Ok::<(), sigxume::Refusal>(())
 /// ```
 pub fn compare(

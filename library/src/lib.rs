@@ -28,6 +28,9 @@
 //! # Ok::<(), sigxume::Refusal>(())
 //! ```
 //!
+//! Which sequence is passed first does not matter: exchanging the two exchanges [`Tile::first`] and
+//! [`Tile::second`] of each tile and changes nothing else, equal lengths included.
+//!
 //! What a greater minimum would leave of it, [`Comparer::cover`] answers for every minimum at once.
 //!
 //! [`Comparer`] keeps buffers from one comparison to the next. Who has buffers already calls

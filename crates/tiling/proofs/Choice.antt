@@ -8,7 +8,7 @@ use mathlib.Core.Path.{_≡_, refl, sym, _∙_, ap}
 use mathlib.Core.Bool.{Bool, true, false, not}
 use mathlib.Core.List.{List, [], _∷_}
 use mathlib.Core.Logic.{_⊎_, inl, inr}
-use borrow.Author.Tests.{eq-eqb, ne-eqb, lt-ltb, le-ltb, eqb-true, eqb-false, ltb-true, ltb-false}
+use borrow.Author.Tests.{eq-eqb, ne-eqb, lt-ltb, le-ltb, eqb-true, eqb-false, ltb-true}
 use lib.Dec.{eqb, ltb}
 use lib.ListN.{length}
 use Rattle.tiling.specs.Choice.{firstByWords, firstIsPattern}
@@ -31,20 +31,13 @@ pub by-length : (first second : List ℕ) → (length first ≡ length second �
 unfolding firstIsPattern
 by-length first second d = rw (firstIsPattern, ne-eqb (length first) (length second) d) refl
 
--- ---- the pattern is no longer than the text
+-- The first is the pattern only where it is no longer.
 pub first-shorter : (first second : List ℕ) → firstIsPattern first second ≡ true → length first ≤ length second
 first-shorter first second e = go (eqb (length first) (length second)) refl
   where
     go : (b : Bool) → eqb (length first) (length second) ≡ b → length first ≤ length second
     go true k = omega (arith, eqb-true (length first) (length second) k)
     go false k = omega (arith, ltb-true (length first) (length second) (sym (by-length first second (eqb-false _ _ k)) ∙ e))
-
-pub second-shorter : (first second : List ℕ) → firstIsPattern first second ≡ false → length second ≤ length first
-second-shorter first second e = go (eqb (length first) (length second)) refl
-  where
-    go : (b : Bool) → eqb (length first) (length second) ≡ b → length second ≤ length first
-    go true k = omega (arith, eqb-true (length first) (length second) k)
-    go false k = ltb-false (length first) (length second) (sym (by-length first second (eqb-false _ _ k)) ∙ e)
 
 -- ---- the sequences exchanged
 -- Of two numbers that differ one is smaller.
@@ -84,3 +77,11 @@ pattern-turn first second = go (eqb (length first) (length second)) refl
     go false k =
         let d = eqb-false (length first) (length second) k in
         inl (rw (by-length first second d, by-length second first (λ s. d (sym s))) (differ-turn (length first) (length second) d))
+
+-- So the second is the pattern only where it is no longer, too.
+pub second-shorter : (first second : List ℕ) → firstIsPattern first second ≡ false → length second ≤ length first
+second-shorter first second e = go (pattern-turn first second)
+  where
+    go : (firstIsPattern second first ≡ not (firstIsPattern first second)) ⊎ (first ≡ second) → length second ≤ length first
+    go (inl t) = first-shorter second first (t ∙ ap not e)
+    go (inr s) = omega (arith, ap length s)
