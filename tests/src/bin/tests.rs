@@ -20,6 +20,7 @@ type Row = (&'static str, u64, fn(&mut Group));
 #[rustfmt::skip]
 const GROUPS: &[Row] = &[
     ("reference: known pairs", 1, known::pairs),
+    ("reference: choice of pattern", 113, known::choices),
     ("reference: known windows", 2, known::windows),
     ("reference: worked example", 3, known::example),
     ("reference: port of Wise's program", 60, baselines::wise_random),
