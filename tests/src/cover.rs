@@ -1,6 +1,7 @@
 //! The cover at every minimum from one run: each answer, each word of the buffer for the cover, of the
 //! tile buffer and of the workspace, all of them dirty before.
 
+pub mod exchange;
 pub mod laws;
 pub mod limits;
 
