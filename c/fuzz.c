@@ -895,6 +895,14 @@ int main(int argc, char **argv)
     filled += fread(input + filled, 1, sizeof input - filled, stdin);
     end(folder);
 
+    /* The second sequence is the pattern, as a call is smaller than a no-call, and the tiles show it. */
+    uint32_t a = SIGXUME_CALL(1), b = SIGXUME_CALL(2), none = SIGXUME_NO_CALL;
+    for (int cover = 0; cover < 2; cover++) {
+        begin(cover ? COVER : COMPARE, 2, 257, 256, 20);
+        add_pair((uint32_t[]){none, b, b, a, b}, 5, (uint32_t[]){a, b, b, b, none}, 5);
+        end(folder);
+    }
+
     /* The second sequence is the first with its two thirds exchanged and a word changed now and then. */
     for (size_t k = 0; k < sizeof sizes / sizeof *sizes; k++) {
         size_t n = sizes[k];
