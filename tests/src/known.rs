@@ -8,6 +8,7 @@ use crate::reference::{
     covered, exchanged, first_is_pattern, pair_program, score, tiling, window_hashes, Tile,
 };
 use crate::samples::{call, NO_CALL};
+use crate::series;
 use std::fmt::{self, Display, Formatter};
 
 /// A row of a table: name, first, second, minimum, tiles, covered, score.
@@ -149,10 +150,10 @@ pub fn pairs(g: &mut Group) {
     }
 }
 
-/// The pattern of two sequences that are not equal, the other one, whichever of them is the first; and the
-/// first of two that are.
+/// Which of two sequences is the pattern, whichever is handed in first; of equal ones it is the first. In the
+/// rows of 000 it is the first too.
 pub fn choices(g: &mut Group) {
-    // Shorter; then smaller at the first difference, whatever comes after it, and calls before no-calls.
+    // The pattern, which is shorter, or smaller at the first difference, whatever comes after it; and the text.
     let rows = [
         ("", "a"),
         ("b", "aa"),
@@ -178,6 +179,14 @@ pub fn choices(g: &mut Group) {
     for words in ["", "a", "?", "ab?a"].map(letters) {
         let case = format_args!("{} with itself", Letters(&words));
         g.equal(case, first_is_pattern(&words, &words.clone()), true);
+    }
+    for series::Row { name, pair, .. } in series::rows() {
+        let [pattern, text] = &pair;
+        g.equal(
+            format_args!("{name}"),
+            first_is_pattern(pattern, text),
+            true,
+        );
     }
     for [smaller, greater] in rising() {
         let first = first_is_pattern(&[smaller], &[greater]);

@@ -198,11 +198,6 @@ pub struct Tile {
 }
 
 impl Tile {
-    /// The same tile with the sides exchanged.
-    pub fn exchanged(self) -> Self {
-        [self.second, self.first, self.length].into()
-    }
-
     /// The first so many tiles in a tile buffer.
     pub fn list(buffer: &[u32], count: u32) -> Vec<Self> {
         let rows = buffer.chunks_exact(3).take(count as usize);
@@ -223,7 +218,8 @@ impl From<[usize; 3]> for Tile {
 
 /// The same tiles in the same order with the sides exchanged.
 pub fn exchanged(tiles: Vec<Tile>) -> Vec<Tile> {
-    tiles.into_iter().map(Tile::exchanged).collect()
+    let exchange = |tile: Tile| [tile.second, tile.first, tile.length].into();
+    tiles.into_iter().map(exchange).collect()
 }
 
 /// The pattern or the text: the code of each word that is a call and unmarked.

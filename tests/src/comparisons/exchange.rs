@@ -103,7 +103,8 @@ pub fn one_difference(g: &mut Group) {
         let random = &mut g.random;
         let longest = random.pick(&[4, 8, 8, 30]);
         let length = 1 + random.below(longest);
-        let [words, _] = equal_pair(random, length, 2);
+        let table = [call(1), call(2), NO_CALL];
+        let words = Vec::from_iter((0..length).map(|_| random.pick(&table)));
         let last = length - 1;
         let at = random.pick(&[0, length / 2, last, last.saturating_sub(1)]);
         let [one, other] = random.pick(&[
