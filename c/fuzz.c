@@ -44,6 +44,7 @@ struct plan {
     unsigned alphabet; /* calls have so many codes, and all words are sound; 0: words as they are */
     bool bytes;        /* a word is given by one byte */
     bool itself;       /* the first sequence is compared with itself */
+    bool halves;       /* both sequences are half of the words */
     bool null;         /* an empty slice has the null pointer */
     bool in_range;     /* settings are brought into their range */
     unsigned room[3];  /* of workspace, tile buffer and buffer: as much as is asked, one short, one more, more */
@@ -414,13 +415,23 @@ static void try_hashes(const struct plan *plan, const uint32_t *words, size_t le
     MUST(fits == 0 || b.at[fits - 1] == hash_of(words + fits - 1, window, plan->multiplier));
 }
 
+/* Whether the first sequence is the pattern: the shorter one is, and of equal lengths the one with the smaller word where they
+ * first differ. */
+static bool first_is_pattern(const uint32_t *first, size_t n, const uint32_t *second, size_t m)
+{
+    for (size_t i = 0; n == m && i < n; i++)
+        if (first[i] != second[i])
+            return first[i] < second[i];
+    return n <= m;
+}
+
 /* The tiling as it is defined, by looking at every run again for each tile. */
 static void must_be_the_tiling(
     const uint32_t *first, size_t n, const uint32_t *second, size_t m, uint32_t minimum, const uint32_t *tiles, size_t count)
 {
     static bool marked[2][SMALL];
     static size_t run[SMALL + 1];
-    bool straight = n <= m;
+    bool straight = first_is_pattern(first, n, second, m);
     const uint32_t *pattern = straight ? first : second, *text = straight ? second : first;
     size_t rows = straight ? n : m, columns = straight ? m : n;
     memset(marked[0], 0, rows);
@@ -460,12 +471,14 @@ static void must_be_tiled(
     static bool marked[2][2048];
     memset(marked[0], 0, n);
     memset(marked[1], 0, m);
+    bool equal = n == m && memcmp(first, second, n * sizeof *first) == 0;
     uint32_t covered = 0, last = 2048;
     for (size_t i = 0; i < answer.tiles; i++) {
         sigxume_tile tile = sigxume_tile_at(tiles, i);
         MUST(tile.length >= minimum && tile.length <= last);
         MUST(tile.first <= n && tile.length <= n - tile.first);
         MUST(tile.second <= m && tile.length <= m - tile.second);
+        MUST(!equal || tile.first == tile.second);
         for (size_t k = 0; k < tile.length; k++) {
             MUST(match(first[tile.first + k], second[tile.second + k]));
             MUST(!marked[0][tile.first + k] && !marked[1][tile.second + k]);
@@ -570,6 +583,15 @@ static bool same(sigxume_compared a, sigxume_compared b)
     return a.refusal == b.refusal && a.tiles == b.tiles && a.covered == b.covered && a.score == b.score;
 }
 
+/* Tiles of a pair, and of the pair with the sides exchanged. */
+static void must_be_exchanged(const uint32_t *tiles, const uint32_t *other, size_t count)
+{
+    for (size_t i = 0; i < count; i++) {
+        sigxume_tile a = sigxume_tile_at(tiles, i), b = sigxume_tile_at(other, i);
+        MUST(a.first == b.second && a.second == b.first && a.length == b.length);
+    }
+}
+
 static void try_compare(const struct plan *plan, const uint32_t *first, size_t n, const uint32_t *second, size_t m)
 {
     static uint32_t plain_tiles[LOT], fast_tiles[LOT], other_tiles[LOT], earlier_tiles[LOT];
@@ -592,14 +614,11 @@ static void try_compare(const struct plan *plan, const uint32_t *first, size_t n
         MUST(same(plain, earlier) && memcmp(plain_tiles, earlier_tiles, bytes) == 0);
     }
 
-    /* Where the lengths differ, the sides may be exchanged. */
-    if (n != m && fast.refusal == 0) {
+    /* Exchanging the sides only exchanges the sides of each tile. */
+    if (fast.refusal == 0) {
         sigxume_compared other = try_engine(plan, side == AFTER, second, m, first, n, other_tiles);
         MUST(same(other, fast));
-        for (size_t i = 0; i < other.tiles; i++) {
-            sigxume_tile a = sigxume_tile_at(fast_tiles, i), b = sigxume_tile_at(other_tiles, i);
-            MUST(a.first == b.second && a.second == b.first && a.length == b.length);
-        }
+        must_be_exchanged(fast_tiles, other_tiles, other.tiles);
     }
 }
 
@@ -691,11 +710,10 @@ static void try_cover(const struct plan *plan, const uint32_t *first, size_t n, 
     }
     must_be_covered(plan, first, n, second, m, answer, tiles, curve);
 
-    /* Where the lengths differ, the sides may be exchanged. */
-    if (n != m) {
-        other = try_settings(plan, true, second, m, first, n, other_tiles, other_curve);
-        MUST(same(answer, other) && memcmp(curve, other_curve, sizeof curve) == 0);
-    }
+    /* Exchanging the sides only exchanges the sides of each tile. */
+    other = try_settings(plan, true, second, m, first, n, other_tiles, other_curve);
+    MUST(same(answer, other) && memcmp(curve, other_curve, sizeof curve) == 0);
+    must_be_exchanged(tiles, other_tiles, answer.tiles);
 }
 
 /* The input of the pair program: a minimum, then two records. */
@@ -732,6 +750,7 @@ static struct plan plan_of(const uint8_t *bytes)
         .itself = bytes[2] >> 1 & 1,
         .null = bytes[2] >> 2 & 1,
         .in_range = bytes[2] >> 3 & 1,
+        .halves = bytes[2] >> 4 & 1,
         .room = {bytes[3] % 4, bytes[3] / 4 % 4, bytes[3] / 16 % 4},
         .cut = bytes[4] + 256u * bytes[5],
         .id = (uint16_t)(bytes[6] + 256u * bytes[7]),
@@ -776,9 +795,9 @@ static void try_plan(const struct plan *plan, const uint32_t *words, size_t len)
     case HASHES: try_hashes(plan, words, len); break;
     case PAIR: try_pair(plan, words, len); break;
     default: {
-        size_t cut = plan->itself ? len : plan->cut % (len + 1);
+        size_t cut = plan->itself ? len : plan->halves ? len / 2 : plan->cut % (len + 1);
         const uint32_t *second = plan->itself ? words : words + cut;
-        size_t m = plan->itself ? len : len - cut;
+        size_t m = plan->itself || plan->halves ? cut : len - cut;
         if (plan->kind == COVER)
             try_cover(plan, words, cut, second, m);
         else
@@ -840,6 +859,9 @@ static void add_pair(const uint32_t *first, size_t n, const uint32_t *second, si
 {
     input[4] = (uint8_t)n;
     input[5] = (uint8_t)(n >> 8);
+    /* Those of equal length stay halves when they grow. */
+    if (n == m)
+        input[2] |= 1 << 4;
     add(first, n);
     add(second, m);
 }
@@ -873,6 +895,14 @@ int main(int argc, char **argv)
     filled += fread(input + filled, 1, sizeof input - filled, stdin);
     end(folder);
 
+    /* The second sequence is the pattern, as a call is smaller than a no-call, and the tiles show it. */
+    uint32_t a = SIGXUME_CALL(1), b = SIGXUME_CALL(2), none = SIGXUME_NO_CALL;
+    for (int cover = 0; cover < 2; cover++) {
+        begin(cover ? COVER : COMPARE, 2, 257, 256, 20);
+        add_pair((uint32_t[]){none, b, b, a, b}, 5, (uint32_t[]){a, b, b, b, none}, 5);
+        end(folder);
+    }
+
     /* The second sequence is the first with its two thirds exchanged and a word changed now and then. */
     for (size_t k = 0; k < sizeof sizes / sizeof *sizes; k++) {
         size_t n = sizes[k];
@@ -900,14 +930,18 @@ int main(int argc, char **argv)
         begin(HASHES, n < 8 ? 1 : (uint32_t)n / 8, 257, 0, 0);
         add(first, n);
         end(folder);
-        for (size_t i = 0; i < sizeof minimums / sizeof *minimums; i++) {
-            begin(COMPARE, minimums[i], 257, 256, minimums[i] > 20 ? minimums[i] : 20);
-            add_pair(first, n, second, n - n / 9);
+        /* The second shorter, and of equal length. */
+        for (size_t shorter = 0; shorter < 2; shorter++) {
+            size_t m = shorter ? n - n / 9 : n;
+            for (size_t i = 0; i < sizeof minimums / sizeof *minimums; i++) {
+                begin(COMPARE, minimums[i], 257, 256, minimums[i] > 20 ? minimums[i] : 20);
+                add_pair(first, n, second, m);
+                end(folder);
+            }
+            begin(COVER, 8, 257, 256, 20);
+            add_pair(first, n, second, m);
             end(folder);
         }
-        begin(COVER, 8, 257, 256, 20);
-        add_pair(first, n, second, n - n / 9);
-        end(folder);
     }
     return 0;
 }
@@ -982,8 +1016,11 @@ size_t LLVMFuzzerCustomMutator(uint8_t *data, size_t size, size_t max_size, unsi
     if (plan.kind == PAIR && len > 0)
         repair(bytes + 4, len - 1);
     if ((plan.kind == COMPARE || plan.kind == COVER) && len > 0 && below(2) == 0) {
-        /* A block of one place at another too, so that there is something to lay. */
-        size_t from = below(len), to = below(len), block = below(len - (from > to ? from : to)) + 1;
+        /* A block of one place at another too, so that there is something to lay; or the second half begins as the first does, so
+         * that they differ late or nowhere. */
+        bool alike = plan.halves && below(2) == 0;
+        size_t from = alike ? 0 : below(len), to = alike ? len / 2 : below(len);
+        size_t block = below(len - (from > to ? from : to)) + 1;
         memmove(bytes + 4 * to, bytes + 4 * from, 4 * block);
     }
     return size;

@@ -1,15 +1,17 @@
 //! Comparisons by both engines: each answer, each word of the tile buffer and each word of the
 //! workspace, which is dirty before.
 
+pub mod exchange;
 pub mod laws;
 pub mod limits;
 pub mod mistakes;
+mod plan;
 pub mod restarts;
 pub mod settings;
 
 use crate::engine::{every_settings, Engine};
 use crate::group::Group;
-use crate::known::{self, Letters, LISTING};
+use crate::known::{self, Known, Letters, LISTING};
 use crate::pairs::{
     any_pair, both_orders, calls, distinct, every_sequence, pattern_words, periodic, related,
     unrelated, Pair, Sides,
@@ -17,7 +19,7 @@ use crate::pairs::{
 use crate::random::Random;
 use crate::records::WORKED;
 use crate::reference::{
-    self, listing, tile_words, tiling, workspace_words, Tile, MAX_MINIMUM, MAX_WORDS,
+    self, exchanged, listing, tile_words, tiling, workspace_words, Tile, MAX_MINIMUM, MAX_WORDS,
 };
 use crate::samples::{call, fills, NO_CALL};
 use sigxume::raw::{self, Compared};
@@ -159,11 +161,18 @@ pub fn listed(engine: Engine, pair: Sides, minimum: u32) -> (Compared, Vec<Tile>
     (answer, Tile::list(&tiles, answer.tiles))
 }
 
-/// K1 to K11 with every setting of the tables, and the worked example from its two records to its
-/// listing.
+/// An engine's answer to a pair with the sides exchanged, and its tiles with the sides exchanged once
+/// more. 02, U2: "exchanging the strands now only exchanges tile sides for all accepted pairs".
+fn turned_back(engine: Engine, [first, second]: Sides, minimum: u32) -> (Compared, Vec<Tile>) {
+    let (answer, tiles) = listed(engine, [second, first], minimum);
+    (answer, exchanged(tiles))
+}
+
+/// The known pairs with every setting of the tables, handed in either way, and the worked example from
+/// its two records to its listing.
 pub fn known(g: &mut Group) {
-    for row in known::rows() {
-        let name = row.name;
+    for row in known::rows().flat_map(Known::both_ways) {
+        let name = &row.name;
         let pair = [&row.first[..], &row.second];
         let minimum = row.minimum as u32;
         let expected = Compared {
@@ -180,11 +189,9 @@ pub fn known(g: &mut Group) {
             let case = format_args!("{engine}: answer of {name}");
             g.equal(case, answer, expected);
         }
-        for pair in both_orders(&pair.map(<[u32]>::to_vec)) {
-            for minimum in 1..=8 {
-                let case = format_args!("words of {name} at minimum {minimum}");
-                compare(g, case, pair, minimum);
-            }
+        for minimum in 1..=8 {
+            let case = format_args!("words of {name} at minimum {minimum}");
+            compare(g, case, pair, minimum);
         }
     }
     let [(first, first_id), (second, second_id)] = WORKED.map(|(_, letters, header, trailer)| {

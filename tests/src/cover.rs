@@ -1,6 +1,7 @@
 //! The cover at every minimum from one run: each answer, each word of the buffer for the cover, of the
 //! tile buffer and of the workspace, all of them dirty before.
 
+pub mod exchange;
 pub mod laws;
 pub mod limits;
 
@@ -12,7 +13,9 @@ use crate::pairs::{
     periodic, related, unrelated, Pair, Sides,
 };
 use crate::random::Random;
-use crate::reference::{self, tile_words, workspace_words, Curve, Tile, COVER_WORDS, MAX_WORDS};
+use crate::reference::{
+    self, exchanged, tile_words, workspace_words, Curve, Tile, COVER_WORDS, MAX_WORDS,
+};
 use crate::samples::{call, fills, NO_CALL};
 use crate::wise;
 use sigxume::raw::{self, Compared};
@@ -55,8 +58,7 @@ impl<'a> Problem<'a> {
         Self::by(pair, move || Curve::of(tiling))
     }
 
-    /// A pair in which nothing matches but these tiles, word by word, so that at each minimum those
-    /// are laid that are long enough.
+    /// A pair whose tiles are known at each minimum: of these, those that are long enough.
     fn known(pair: Sides<'a>, tiles: Vec<Tile>) -> Self {
         let long = move |minimum| {
             let mut tiles = tiles.clone();
@@ -140,9 +142,15 @@ fn covered(settings: Settings, pair: Sides) -> (Compared, Vec<Tile>, Vec<u32>) {
     (answer, Tile::list(&tiles, answer.tiles), words)
 }
 
-/// The covers of 01's pairs, by hand from the tiles at minimum 1; the entries after these are 0. Those
-/// of K5 and K6 are the worked example's.
-const COVERS: [(&str, &[u32]); 11] = [
+/// The cover by the core of a pair with the sides exchanged, its tiles with the sides exchanged once more.
+fn turned_back(settings: Settings, [first, second]: Sides) -> (Compared, Vec<Tile>, Vec<u32>) {
+    let (answer, tiles, words) = covered(settings, [second, first]);
+    (answer, exchanged(tiles), words)
+}
+
+/// The covers of the known pairs, by hand from the tiles at minimum 1; the entries after these are 0.
+/// Those of K5 and K6 are the worked example's.
+const COVERS: [(&str, &[u32]); known::ROWS] = [
     ("K1", &[]),
     ("K2", &[1]),
     ("K3", &[1]),
@@ -154,27 +162,38 @@ const COVERS: [(&str, &[u32]); 11] = [
     ("K9", &[3, 3, 3]),
     ("K10", &[3, 2]),
     ("K11", &[5, 5, 3]),
+    ("K7 exchanged", &[2]),
+    ("the second is the pattern", &[4, 4]),
+    ("no-calls first", &[2]),
+    ("a no-call and a call", &[4, 4]),
+    ("a no-call for a call", &[2]),
+    ("with itself", &[4, 4]),
 ];
 
-/// K1 to K11 at every minimum, with every setting of the tables.
+/// The known pairs at every minimum, with every setting of the tables, handed in either way.
 pub fn known(g: &mut Group) {
     for (row, (name, entries)) in known::rows().zip(COVERS) {
         let mut expected = entries.to_vec();
         expected.resize(COVER_WORDS, 0);
         let pair = [&row.first[..], &row.second];
         g.equal(
-            format_args!("01's covered of {name}, and the reference's cover"),
-            (row.name, row.covered, Curve::literal(pair).covered.to_vec()),
+            format_args!("the covered of {name}, and the reference's cover"),
+            (
+                &row.name[..],
+                row.covered,
+                Curve::literal(pair).covered.to_vec(),
+            ),
             (name, expected[row.minimum - 1] as usize, expected.clone()),
         );
         let problem = Problem::new(pair);
+        let exchanged = Problem::new([pair[1], pair[0]]);
         for settings in every_settings(1, pattern_words(pair)) {
             problem.cover_by(g, format_args!("{name}"), settings, 0);
-            let (_, _, words) = covered(settings, pair);
-            g.equal(format_args!("words of {name}"), &words, &expected);
+            exchanged.cover_by(g, format_args!("{name}, exchanged"), settings, 0);
+            let words = [covered(settings, pair).2, turned_back(settings, pair).2];
+            let case = format_args!("words of {name}, either way");
+            g.equal(case, words.each_ref(), [&expected; 2]);
         }
-        let exchanged = [pair[1], pair[0]];
-        Problem::new(exchanged).cover(g, format_args!("{name}, exchanged"));
     }
 }
 
@@ -289,6 +308,8 @@ pub fn known_tiles(g: &mut Group) {
         let (count, longest) = (lengths.len(), lengths.iter().max());
         let case = format_args!("{count} blocks, the longest of {longest:?} words");
         Problem::known([&first, &second], tiles.clone()).cover(g, case);
+        let case = format_args!("{count} blocks, the longest of {longest:?} words, exchanged");
+        Problem::known([&second, &first], exchanged(tiles.clone())).cover(g, case);
         // With a word less the second side is the pattern. Its last word is a no-call, so the blocks
         // are whole, but those of one length are laid in another order.
         let shorter = &second[..second.len() - 1];

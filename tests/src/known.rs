@@ -1,12 +1,17 @@
-//! The reference itself against 01: the pairs K1 to K11, the windows K12 and the worked example.
+//! The reference itself against 01 and 02: the pairs K1 to K11 and others of equal length, the windows
+//! K12 and the worked example.
 
+use crate::equal_length::rising;
 use crate::group::Group;
 use crate::program::{bytes, worked};
-use crate::reference::{covered, pair_program, score, tiling, window_hashes, Tile};
+use crate::reference::{
+    covered, exchanged, first_is_pattern, pair_program, score, tiling, window_hashes, Tile,
+};
 use crate::samples::{call, NO_CALL};
+use crate::series;
 use std::fmt::{self, Display, Formatter};
 
-/// A row of 01's table: name, first, second, minimum, tiles, covered, score.
+/// A row of a table: name, first, second, minimum, tiles, covered, score.
 type Row = (
     &'static str,
     &'static str,
@@ -17,6 +22,7 @@ type Row = (
     usize,
 );
 
+/// 01's table.
 #[rustfmt::skip]
 const PAIRS: [Row; 11] = [
     ("K1", "", "", 1, &[], 0, 0),
@@ -31,6 +37,25 @@ const PAIRS: [Row; 11] = [
     ("K10", "aba", "abba", 2, &[[0, 0, 2]], 2, 571),
     ("K11", "abcde", "cdeab", 2, &[[2, 0, 3], [0, 3, 2]], 5, 1000),
 ];
+
+/// Pairs of equal length that would come out otherwise if the pattern were chosen in another way than 02
+/// says, and a sequence with itself. The tiles are found by hand.
+#[rustfmt::skip]
+const EQUAL_LENGTHS: [Row; 6] = [
+    ("K7 exchanged", "ba", "ab", 1, &[[1, 0, 1], [0, 1, 1]], 2, 1000),
+    // With the first as the pattern one tile, and 500.
+    ("the second is the pattern", "bbab", "abbb", 2, &[[2, 0, 2], [0, 2, 2]], 4, 1000),
+    // The words at 0 are equal, though they don't match.
+    ("no-calls first", "?ab", "?ba", 1, &[[1, 2, 1], [2, 1, 1]], 2, 666),
+    // By the low bits the no-call is the smaller; with the first as the pattern one tile, and 400.
+    ("a no-call and a call", "?bbab", "abbb?", 2, &[[3, 0, 2], [1, 2, 2]], 4, 800),
+    // The no-call is all that differs.
+    ("a no-call for a call", "ab?a", "?b?a", 1, &[[0, 3, 1], [1, 1, 1]], 2, 500),
+    ("with itself", "aa?aa", "aa?aa", 1, &[[0, 0, 2], [3, 3, 2]], 4, 800),
+];
+
+/// How many rows there are in both tables.
+pub const ROWS: usize = PAIRS.len() + EQUAL_LENGTHS.len();
 
 /// 01's listing of fish 12 and fish 13 at minimum 1.
 pub const LISTING: &str = "\
@@ -72,9 +97,9 @@ impl Display for Letters<'_> {
     }
 }
 
-/// A row of 01's table as sequences and tiles.
+/// A row of a table as sequences and tiles.
 pub struct Known {
-    pub name: &'static str,
+    pub name: String,
     pub first: Vec<u32>,
     pub second: Vec<u32>,
     pub minimum: usize,
@@ -83,11 +108,25 @@ pub struct Known {
     pub score: usize,
 }
 
-/// The rows K1 to K11.
+impl Known {
+    /// The row and the one with the sides exchanged, which differs in the sides of the tiles alone.
+    pub fn both_ways(self) -> [Self; 2] {
+        let other = Self {
+            name: format!("{}, exchanged", self.name),
+            first: self.second.clone(),
+            second: self.first.clone(),
+            tiles: exchanged(self.tiles.clone()),
+            ..self
+        };
+        [self, other]
+    }
+}
+
+/// The rows K1 to K11, then ours.
 pub fn rows() -> impl Iterator<Item = Known> {
-    PAIRS.into_iter().map(
+    PAIRS.into_iter().chain(EQUAL_LENGTHS).map(
         |(name, first, second, minimum, tiles, covered, score)| Known {
-            name,
+            name: name.to_string(),
             first: letters(first),
             second: letters(second),
             minimum,
@@ -98,15 +137,64 @@ pub fn rows() -> impl Iterator<Item = Known> {
     )
 }
 
-/// K1 to K11.
+/// K1 to K11 and ours, handed in either way.
 pub fn pairs(g: &mut Group) {
-    for row in rows() {
+    for row in rows().flat_map(Known::both_ways) {
         let laid = tiling(&row.first, &row.second, row.minimum);
         let sum = covered(&laid);
         g.equal(
             format_args!("{}: tiles, covered, score", row.name),
             (laid, sum, score(sum, row.first.len(), row.second.len())),
             (row.tiles, row.covered, row.score),
+        );
+    }
+}
+
+/// Which of two sequences is the pattern, whichever is handed in first; of equal ones it is the first. In the
+/// rows of 000 it is the first too.
+pub fn choices(g: &mut Group) {
+    // The pattern, which is shorter, or smaller at the first difference, whatever comes after it; and the text.
+    let rows = [
+        ("", "a"),
+        ("b", "aa"),
+        ("?", "aa"),
+        ("a", "b"),
+        ("a", "?"),
+        ("az", "ba"),
+        ("aza", "bab"),
+        ("za", "zb"),
+        ("z?", "??"),
+        ("?a", "?b"),
+        ("?a?", "?ba"),
+        ("??a", "???"),
+        ("ab?a", "?b?a"),
+    ];
+    for (pattern, text) in rows {
+        let [pattern, text] = [pattern, text].map(letters);
+        let either = [[&pattern, &text], [&text, &pattern]];
+        let case = format_args!("{} and {}", Letters(&pattern), Letters(&text));
+        let first = either.map(|[first, second]| first_is_pattern(first, second));
+        g.equal(case, first, [true, false]);
+    }
+    for words in ["", "a", "?", "ab?a"].map(letters) {
+        let case = format_args!("{} with itself", Letters(&words));
+        g.equal(case, first_is_pattern(&words, &words.clone()), true);
+    }
+    for series::Row { name, pair, .. } in series::rows() {
+        let [pattern, text] = &pair;
+        g.equal(
+            format_args!("{name}"),
+            first_is_pattern(pattern, text),
+            true,
+        );
+    }
+    for [smaller, greater] in rising() {
+        let first = first_is_pattern(&[smaller], &[greater]);
+        let second = first_is_pattern(&[greater], &[smaller]);
+        g.equal(
+            format_args!("{smaller:#x} and {greater:#x}"),
+            [first, second],
+            [true, false],
         );
     }
 }

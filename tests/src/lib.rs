@@ -7,6 +7,7 @@ pub mod comparisons;
 pub mod cover;
 pub mod documents;
 pub mod engine;
+pub mod equal_length;
 pub mod group;
 pub mod hashes;
 pub mod known;

@@ -17,7 +17,7 @@ pub fn both_orders(pair: &Pair) -> [Sides<'_>; 2] {
     [[first, second], [second, first]]
 }
 
-/// The length of the pattern, which is the shorter sequence.
+/// The length of the pattern, which is that of the shorter sequence.
 pub fn pattern_words([first, second]: Sides) -> usize {
     first.len().min(second.len())
 }
@@ -82,8 +82,16 @@ pub fn shuffled(random: &mut Random, n: usize) -> Vec<usize> {
     order
 }
 
+/// Tiles with the longest first, those of one length in the order they had.
+pub fn longest_first(mut tiles: Vec<Tile>) -> Vec<Tile> {
+    tiles.sort_by_key(|tile| std::cmp::Reverse(tile.length));
+    tiles
+}
+
 /// Blocks of these lengths in this order on the first side, in any order on the second, each with a
-/// no-call after it; and their tiles, which are known since every code occurs in one block only.
+/// no-call after it; and their tiles, which are known since every code occurs in one block only. The
+/// first side is the pattern: the codes rise on it, so it has the smaller word where the two first
+/// differ, which is where a block begins.
 pub fn blocks(random: &mut Random, lengths: &[usize]) -> (Pair, Vec<Tile>) {
     let start = |order: &[usize], i: usize| -> usize {
         let before = order.iter().take_while(|&&other| other != i);
@@ -95,14 +103,14 @@ pub fn blocks(random: &mut Random, lengths: &[usize]) -> (Pair, Vec<Tile>) {
         .iter()
         .map(|&i| [&distinct(start(&straight, i), lengths[i])[..], &[NO_CALL]].concat())
         .collect();
-    let mut tiles: Vec<Tile> = straight
+    let tiles = straight
         .iter()
         .map(|&i| [start(&straight, i), start(&order, i), lengths[i]].into())
         .collect();
-    // The longest first; the sort leaves equal ones in the order of the first side, the pattern.
-    tiles.sort_by_key(|tile| std::cmp::Reverse(tile.length));
     let second: Vec<&[u32]> = order.iter().map(|&i| &separated[i][..]).collect();
-    ([separated.concat(), second.concat()], tiles)
+    let pair = [separated.concat(), second.concat()];
+    // Those of one length are in the order of the pattern.
+    (pair, longest_first(tiles))
 }
 
 /// A stretch of 1 to `longest` words within the first `length` ones.

@@ -2,13 +2,13 @@
 //! write fails.
 
 use crate::group::Group;
-use crate::known::{self, letters, LISTING};
+use crate::known::{self, letters, Known, LISTING};
 use crate::pairs::{any_pair, calls, distinct, related, unrelated, Pair};
 use crate::process::{self, first_difference, lossy, Pieces, AT_ONCE};
 use crate::records::WORKED;
 use crate::reference::{
-    header, listing, pair_program, record, sealed, trailer, Tile, CUT, HEADER, MAX_MINIMUM,
-    MAX_WORDS, MINIMUM, TRAILER, UNSOUND,
+    exchanged, header, listing, pair_program, record, sealed, trailer, Tile, CUT, HEADER,
+    MAX_MINIMUM, MAX_WORDS, MINIMUM, TRAILER, UNSOUND,
 };
 use crate::samples::{call, ids, sequence, sound_word, unsound_word, with, NO_CALL};
 use std::fmt::Arguments;
@@ -77,11 +77,11 @@ fn refused(g: &mut Group, case: Arguments, input: &[u8], number: u32) {
     expect(g, case, input, &format!("REFUSED {number}\n"));
 }
 
-/// The worked example and K1 to K11.
+/// The worked example and the known pairs, handed in either way.
 pub fn known(g: &mut Group) {
     let case = format_args!("worked example");
     expect(g, case, &bytes(&worked()), LISTING);
-    for row in known::rows() {
+    for row in known::rows().flat_map(Known::both_ways) {
         let pair = [row.first, row.second];
         let minimum = row.minimum as u32;
         let ids = [g.random.half(), g.random.half()];
@@ -89,10 +89,6 @@ pub fn known(g: &mut Group) {
         let expected = listing(ids.map(u32::from), lengths, minimum, &row.tiles);
         let case = format_args!("{}", row.name);
         expect(g, case, &bytes(&input(minimum, ids, &pair)), &expected);
-        let [first, second] = pair;
-        let exchanged = input(minimum, ids, &[second, first]);
-        let case = format_args!("{}, sides exchanged", row.name);
-        compare(g, case, &bytes(&exchanged));
     }
 }
 
@@ -127,7 +123,11 @@ pub fn larger(g: &mut Group) {
     let all = |length: usize| vec![Tile::from([0, 0, length])];
     let plans: Vec<(Pair, u32, Vec<Tile>)> = vec![
         ([whole.clone(), turned.clone()], 1, cross(MAX_WORDS)),
-        ([turned.clone(), whole.clone()], 1, cross(MAX_WORDS)),
+        (
+            [turned.clone(), whole.clone()],
+            1,
+            exchanged(cross(MAX_WORDS)),
+        ),
         (
             [whole[..shorter].to_vec(), turned.clone()],
             1,

@@ -198,11 +198,6 @@ pub struct Tile {
 }
 
 impl Tile {
-    /// The same tile with the sides exchanged.
-    pub fn exchanged(self) -> Self {
-        [self.second, self.first, self.length].into()
-    }
-
     /// The first so many tiles in a tile buffer.
     pub fn list(buffer: &[u32], count: u32) -> Vec<Self> {
         let rows = buffer.chunks_exact(3).take(count as usize);
@@ -219,6 +214,12 @@ impl From<[usize; 3]> for Tile {
             length,
         }
     }
+}
+
+/// The same tiles in the same order with the sides exchanged.
+pub fn exchanged(tiles: Vec<Tile>) -> Vec<Tile> {
+    let exchange = |tile: Tile| [tile.second, tile.first, tile.length].into();
+    tiles.into_iter().map(exchange).collect()
 }
 
 /// The pattern or the text: the code of each word that is a call and unmarked.
@@ -262,28 +263,42 @@ fn best_run(pattern: &Side, text: &Side, minimum: usize) -> Option<(usize, usize
     best
 }
 
-/// The tiles of two sequences in the order laid, for a minimum of at least 1.
-pub fn tiling(first: &[u32], second: &[u32], minimum: usize) -> Vec<Tile> {
+/// Whether the first sequence is the pattern: "the pattern is the shorter strand"; 02, U2: "of two
+/// strands of equal length the pattern is the one with the smaller word at the first place where they
+/// differ, words taken as unsigned numbers. If no place differs the first strand is the pattern."
+pub fn first_is_pattern(first: &[u32], second: &[u32]) -> bool {
+    if first.len() != second.len() {
+        return first.len() < second.len();
+    }
+    for (a, b) in first.iter().zip(second) {
+        if a != b {
+            return a < b;
+        }
+    }
+    true
+}
+
+/// The tiles of a pattern and a text in the order laid, for a minimum of at least 1. The pattern is the
+/// first side of each tile.
+pub fn pattern_tiling(pattern: &[u32], text: &[u32], minimum: usize) -> Vec<Tile> {
     assert!(minimum >= 1, "a minimum is at least 1");
-    // "The pattern is the shorter strand [..]. When lengths are equal the first strand is the pattern."
-    let swapped = second.len() < first.len();
-    let (mut pattern, mut text) = if swapped {
-        (Side::new(second), Side::new(first))
-    } else {
-        (Side::new(first), Side::new(second))
-    };
+    let (mut pattern, mut text) = (Side::new(pattern), Side::new(text));
     let mut tiles = Vec::new();
     while let Some((p, t, length)) = best_run(&pattern, &text, minimum) {
         pattern.mark(p, length);
         text.mark(t, length);
-        let tile = if swapped {
-            [t, p, length]
-        } else {
-            [p, t, length]
-        };
-        tiles.push(tile.into());
+        tiles.push([p, t, length].into());
     }
     tiles
+}
+
+/// The tiles of two sequences in the order laid, for a minimum of at least 1.
+pub fn tiling(first: &[u32], second: &[u32], minimum: usize) -> Vec<Tile> {
+    if first_is_pattern(first, second) {
+        pattern_tiling(first, second, minimum)
+    } else {
+        exchanged(pattern_tiling(second, first, minimum))
+    }
 }
 
 /// "Covered is the sum of tile lengths."

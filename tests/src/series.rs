@@ -25,6 +25,7 @@ pub struct Counts {
 pub struct Row {
     pub series: &'static str,
     pub name: String,
+    /// P and T. P is the pattern: it is shorter than T, or has the smaller word where they first differ.
     pub pair: Pair,
     pub minimum: u32,
     pub counts: Counts,

@@ -17,10 +17,11 @@
 //! - A scan is begun anew at a greater search length only before the first tile, as 000 says that it
 //!   happens; two windows that merely hash alike could otherwise bring it about without end.
 //! - A no-call counts as marked from the start.
+//! - Of two sequences of equal length the pattern is the one that the reference takes, after 02.
 //!
 //! Every comparison allocates what it needs, as the program of 000 did for every run.
 
-use crate::reference::{accept, all_sound, Tile, MAX_WORDS};
+use crate::reference::{accept, all_sound, exchanged, first_is_pattern, Tile, MAX_WORDS};
 use sigxume::raw::Compared;
 use std::mem::take;
 use std::ops::{ControlFlow, Range};
@@ -304,11 +305,11 @@ impl Program {
 
 /// The tiles of two sequences in the order laid, and how many matches were queued on the way.
 pub fn tiling(first: &[u32], second: &[u32], minimum: usize, start: usize) -> (Vec<Tile>, usize) {
-    let swapped = second.len() < first.len();
-    let (pattern, text) = if swapped {
-        (second, first)
-    } else {
+    let straight = first_is_pattern(first, second);
+    let (pattern, text) = if straight {
         (first, second)
+    } else {
+        (second, first)
     };
     let mut program = Program {
         pattern: Side::new(pattern, MARKED[0]),
@@ -319,11 +320,8 @@ pub fn tiling(first: &[u32], second: &[u32], minimum: usize, start: usize) -> (V
         queued: 0,
     };
     program.run(minimum, start);
-    let sides = |[p, t, length]: [usize; 3]| match swapped {
-        true => [t, p, length].into(),
-        false => [p, t, length].into(),
-    };
-    let tiles = program.tiles.into_iter().map(sides).collect();
+    let tiles = program.tiles.into_iter().map(Tile::from).collect();
+    let tiles = if straight { tiles } else { exchanged(tiles) };
     (tiles, program.queued)
 }
 

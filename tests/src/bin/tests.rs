@@ -3,7 +3,7 @@
 //! name, its number of cases and its seed; a difference makes the exit status 1. Arguments are parts of
 //! names: only the groups with one of them are then run.
 
-use sigxume_tests::comparisons::{self, laws, limits, mistakes, restarts, settings};
+use sigxume_tests::comparisons::{self, exchange, laws, limits, mistakes, restarts, settings};
 use sigxume_tests::cover;
 use sigxume_tests::group::Group;
 use sigxume_tests::tool::{
@@ -20,6 +20,7 @@ type Row = (&'static str, u64, fn(&mut Group));
 #[rustfmt::skip]
 const GROUPS: &[Row] = &[
     ("reference: known pairs", 1, known::pairs),
+    ("reference: choice of pattern", 113, known::choices),
     ("reference: known windows", 2, known::windows),
     ("reference: worked example", 3, known::example),
     ("reference: port of Wise's program", 60, baselines::wise_random),
@@ -62,6 +63,11 @@ const GROUPS: &[Row] = &[
     ("compare: unsound words", 40, limits::unsound),
     ("compare: order of refusals", 41, limits::order),
     ("compare: laws", 42, laws::laws),
+    ("exchange: random pairs", 114, exchange::random),
+    ("exchange: choice of pattern", 115, exchange::choice),
+    ("exchange: one difference", 116, exchange::one_difference),
+    ("exchange: equal sequences", 117, exchange::itself),
+    ("exchange: sixty sequences", 118, exchange::sixty),
     ("settings: each with each", 43, settings::each),
     ("settings: equal hashes", 44, mistakes::equal_hashes),
     ("settings: windows alike", 45, settings::windows_alike),
@@ -77,6 +83,7 @@ const GROUPS: &[Row] = &[
     ("cover: known tiles", 105, cover::known_tiles),
     ("cover: what buffers held", 106, cover::held),
     ("cover: laws", 107, cover::laws::laws),
+    ("cover: exchange", 119, cover::exchange::exchange),
     ("cover: sizes", 108, cover::limits::sizes),
     ("cover: settings", 109, cover::limits::settings),
     ("cover: unsound words", 110, cover::limits::unsound),

@@ -1,6 +1,6 @@
 //! Laws of the tiling, tested on the core's own answers; the reference's tiling has no part in it.
 
-use super::{engines, listed};
+use super::{engines, listed, turned_back};
 use crate::engine::Engine;
 use crate::group::Group;
 use crate::pairs::{any_pair, both_orders, periodic, related, unrelated, Pair, Sides};
@@ -69,8 +69,7 @@ fn hold(g: &mut Group, name: &str, pair: Sides, minimum: u32) {
 
 /// Tries every law on the answer of the first engine; the other one has the exchanged sides.
 fn hold_by(g: &mut Group, name: &str, [engine, other]: [Engine; 2], pair: Sides, minimum: u32) {
-    let [first, second] = pair;
-    let (n, m) = (first.len(), second.len());
+    let [n, m] = pair.map(<[u32]>::len);
     let name = format!("{engine}: {name}, {n} and {m} words, minimum {minimum}");
     let (answer, tiles) = listed(engine, pair, minimum);
     let sum = covered(&tiles);
@@ -108,15 +107,11 @@ fn hold_by(g: &mut Group, name: &str, [engine, other]: [Engine; 2], pair: Sides,
             shared_calls(pair),
         );
     }
-    if n != m {
-        let (exchanged, crossed) = listed(other, [second, first], minimum);
-        let back = crossed.into_iter().map(Tile::exchanged);
-        g.equal(
-            format_args!("{name}: exchanging the sides exchanges the starts alone, by {other}"),
-            (exchanged, back.collect()),
-            (answer, tiles),
-        );
-    }
+    g.equal(
+        format_args!("{name}: exchanging the sides exchanges the starts alone, by {other}"),
+        turned_back(other, pair, minimum),
+        (answer, tiles),
+    );
 }
 
 /// Random pairs and larger ones, up to 2,048 words.

@@ -6,7 +6,8 @@ use crate::engine::{wrong_starts, Engine, WRONG_BUCKETS};
 use crate::group::Group;
 use crate::pairs::{distinct, Sides};
 use crate::reference::{
-    Tile, BUCKETS, MAX_MINIMUM, MAX_WORDS, MINIMUM, TILES, TOO_LONG, UNSOUND, WINDOW, WORKSPACE,
+    exchanged, Tile, BUCKETS, MAX_MINIMUM, MAX_WORDS, MINIMUM, TILES, TOO_LONG, UNSOUND, WINDOW,
+    WORKSPACE,
 };
 use crate::samples::{
     damages, due, fault_sets, faulty_pair, rooms, sequence, some_room, unsound_word, with, NO_CALL,
@@ -80,6 +81,8 @@ pub fn full(g: &mut Group) {
         let minimum = length as u32;
         let case = format_args!("{count} tiles of {length} words");
         expect(g, case, [&first, &second], minimum, &laid);
+        let case = format_args!("{count} tiles of {length} words, exchanged");
+        expect(g, case, [&second, &first], minimum, &exchanged(laid));
         // The mirror image: the shorter sequence is handed in second.
         let mut longer = first.clone();
         if longer.len() < MAX_WORDS {

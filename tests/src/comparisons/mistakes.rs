@@ -1,60 +1,15 @@
 //! 01's "Where earlier builds went astray", a group for each mistake. Most pairs are built so that
 //! their tiles are known beforehand, apart from any tiling.
 
-use super::{compare, expect, listed, Problem};
+use super::plan::Plan;
+use super::{compare, listed, Problem};
 use crate::engine::{Engine, BUCKETS};
 use crate::group::Group;
 use crate::known::Letters;
 use crate::pairs::{calls, distinct, shuffled, Pair, Sides};
 use crate::random::Random;
-use crate::reference::{window_hashes, Tile, MAX_WORDS};
+use crate::reference::{window_hashes, MAX_WORDS};
 use crate::samples::{call, NO_CALL};
-
-/// Words of the pattern and the text, and their tiles as p, t and length in the order laid.
-struct Plan {
-    pattern: Vec<u32>,
-    text: Vec<u32>,
-    tiles: Vec<[usize; 3]>,
-}
-
-impl Plan {
-    /// Puts the blocks of each side one after another.
-    fn new(pattern: &[&[u32]], text: &[&[u32]], tiles: &[[usize; 3]]) -> Self {
-        Self {
-            pattern: pattern.concat(),
-            text: text.concat(),
-            tiles: tiles.to_vec(),
-        }
-    }
-
-    /// Puts no-calls after the text, so that it is longer than the pattern by `more` words.
-    fn lengthen(mut self, more: usize) -> Self {
-        let length = self.text.len().max(self.pattern.len() + more);
-        self.text.resize(length, NO_CALL);
-        self
-    }
-
-    /// Compares the pair with either side handed in first, except that a pattern as long as the text
-    /// is always the first. Tiles below the minimum are not expected.
-    fn expect(&self, g: &mut Group, minimum: u32) {
-        let Self {
-            pattern,
-            text,
-            tiles,
-        } = self;
-        let tiles = tiles.iter().filter(|tile| tile[2] >= minimum as usize);
-        let straight: Vec<Tile> = tiles.clone().map(|&tile| tile.into()).collect();
-        let crossed: Vec<Tile> = tiles.map(|&[p, t, length]| [t, p, length].into()).collect();
-        let (n, m) = (pattern.len(), text.len());
-        assert!(n <= m, "the pattern is the shorter sequence");
-        let case = format_args!("first of {n}, second of {m} words, minimum {minimum}");
-        expect(g, case, [pattern, text], minimum, &straight);
-        if n < m {
-            let case = format_args!("first of {m}, second of {n} words, minimum {minimum}");
-            expect(g, case, [text, pattern], minimum, &crossed);
-        }
-    }
-}
 
 /// "Skipping a free stretch of exactly the minimum length": runs and free stretches one word short
 /// of the minimum, of the minimum, and one word longer.
@@ -105,7 +60,7 @@ pub fn remainders(g: &mut Group) {
     sizes.extend([[300, 20, 256], [256, 20, 300], [300, 1, 255], [40, 256, 40]]);
     for [a, b, c] in sizes {
         let [block_a, block_b, block_c] =
-            [(0, a), (1_000, b), (2_000, c)].map(|(at, n)| distinct(at, n));
+            [(1_000, a), (2_000, b), (3_000, c)].map(|(at, n)| distinct(at, n));
         let (block_a, block_b, block_c) = (&block_a[..], &block_b[..], &block_c[..]);
         let gap = &[NO_CALL][..];
         let mut minimums: Vec<u32> = [1, 2, a, b, c, a + 1, b + 1, c + 1, a + b, b + c]
@@ -131,10 +86,11 @@ pub fn remainders(g: &mut Group) {
 
         let mut plans = vec![shared_on_pattern, shared_on_text];
 
-        // The run A B C loses A on the pattern to Z A and C on the text to C Y; B is left.
+        // The run A B C loses A on the pattern to Z A and C on the text to C Y; B is left. Z has the
+        // smallest codes, so that of equal lengths the sequence that begins with it is the pattern.
         for [more_z, more_y] in [[1, 1], [1, 2], [2, 1]] {
             let (z, y) = (b + c + more_z, a + b + more_y);
-            let [block_z, block_y] = [(3_000, z), (4_000, y)].map(|(at, n)| distinct(at, n));
+            let [block_z, block_y] = [(0, z), (4_000, y)].map(|(at, n)| distinct(at, n));
             let (block_z, block_y) = (&block_z[..], &block_y[..]);
             let mut tiles = [
                 [0, a + b + c + y + 1, z + a],
@@ -219,9 +175,9 @@ pub fn early_ends(g: &mut Group) {
         }
         for minimum in [1, 2, 256] {
             none(g, &[], &text, minimum);
-            none(g, &vec![NO_CALL; longer], &text, minimum);
+            none(g, &text, &vec![NO_CALL; longer], minimum);
             none(g, &vec![NO_CALL; longer], &vec![NO_CALL; longer], minimum);
-            none(g, &distinct(MAX_WORDS, longer), &text, minimum);
+            none(g, &text, &distinct(MAX_WORDS, longer), minimum);
         }
     }
     for length in 1..=20 {

@@ -54,18 +54,19 @@ pub fn every_length(g: &mut Group) {
 }
 
 /// A block of one code or of a longer period, whose windows are found in many places, after a
-/// shorter block; the text has them the other way round.
+/// shorter block; the text has them the other way round. The shorter block has the smaller codes, so
+/// that the sequence that begins with it is the pattern.
 pub fn shorter_first(g: &mut Group) {
     for length in 2..=MAX_WORDS {
         let random = &mut g.random;
         let minimum = low_minimum(random, length);
         let period = random.pick(&[1, 2, 3, 7, MAX_WORDS]);
-        let block = periodic(length, period, 0);
+        let block = Vec::from_iter(periodic(length, period, 0).iter().map(|word| word + 10_000));
         // A gap stands between the blocks.
         let most = length.min((MAX_WORDS - length).saturating_sub(1));
         let short = random.pick(&[0, 1, minimum as usize, length / 2, length - 1]);
         let short = short.min(most);
-        let small = distinct(10_000, short);
+        let small = distinct(0, short);
         let gap = &[NO_CALL][..usize::from(short > 0)];
         let pattern = [&small[..], gap, &block].concat();
         let text = [&block[..], gap, &small].concat();

@@ -1,6 +1,6 @@
 //! Laws of the cover, tested on the core's own answers; the reference's tiling has no part in it.
 
-use super::covered;
+use super::{covered, turned_back};
 use crate::comparisons::listed;
 use crate::engine::{any_settings, Engine};
 use crate::group::Group;
@@ -20,7 +20,6 @@ fn down_to(tiles: &[Tile], minimum: u32) -> &[Tile] {
 /// Tries every law on a pair: with the comparisons by these engines at each minimum, and with the
 /// sides exchanged.
 fn hold(g: &mut Group, name: &str, pair: Sides, engines: impl Fn(&mut Random, u32) -> Vec<Engine>) {
-    let [first, second] = pair;
     let [one, other] = [(); 2].map(|()| any_settings(&mut g.random, 1, pattern_words(pair)));
     let (answer, tiles, words) = covered(one, pair);
     let name = format!("{}: {name}", Engine::Fast(one));
@@ -44,15 +43,11 @@ fn hold(g: &mut Group, name: &str, pair: Sides, engines: impl Fn(&mut Random, u3
             );
         }
     }
-    if first.len() != second.len() {
-        let (exchanged, crossed, again) = covered(other, [second, first]);
-        let back = Vec::from_iter(crossed.into_iter().map(Tile::exchanged));
-        g.equal(
-            format_args!("{name}: exchanging the sides exchanges the starts alone"),
-            (exchanged, back, again),
-            (answer, tiles, words),
-        );
-    }
+    g.equal(
+        format_args!("{name}: exchanging the sides exchanges the starts alone"),
+        turned_back(other, pair),
+        (answer, tiles, words),
+    );
 }
 
 /// Small pairs with both engines at every minimum, and larger ones, with the plain engine at some.
