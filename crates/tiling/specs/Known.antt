@@ -99,7 +99,8 @@ cases =
     ∷ pair (b ∷ b ∷ a ∷ b ∷ []) (a ∷ b ∷ b ∷ b ∷ []) 2 (2 ∷ 0 ∷ 2 ∷ 0 ∷ 2 ∷ 2 ∷ []) 4 1000  -- the smaller word chooses the second
     ∷ pair (a ∷ b ∷ b ∷ b ∷ []) (b ∷ b ∷ a ∷ b ∷ []) 2 (0 ∷ 2 ∷ 2 ∷ 2 ∷ 0 ∷ 2 ∷ []) 4 1000  -- the same exchanged
     ∷ pair (no-call ∷ a ∷ b ∷ []) (no-call ∷ b ∷ a ∷ []) 1 (1 ∷ 2 ∷ 1 ∷ 2 ∷ 1 ∷ 1 ∷ []) 2 666  -- no-calls do not match, nor differ
-    ∷ pair (no-call ∷ a ∷ b ∷ []) (c ∷ b ∷ a ∷ []) 1 (2 ∷ 1 ∷ 1 ∷ 1 ∷ 2 ∷ 1 ∷ []) 2 666  -- a no-call is greater than a call
+    ∷ pair (no-call ∷ b ∷ b ∷ a ∷ b ∷ []) (a ∷ b ∷ b ∷ b ∷ no-call ∷ []) 2 (3 ∷ 0 ∷ 2 ∷ 1 ∷ 2 ∷ 2 ∷ []) 4 800  -- a no-call is greater
+    ∷ pair (a ∷ b ∷ no-call ∷ a ∷ []) (no-call ∷ b ∷ no-call ∷ a ∷ []) 1 (0 ∷ 3 ∷ 1 ∷ 1 ∷ 1 ∷ 1 ∷ []) 2 500  -- it alone differs
     ∷ pair (a ∷ a ∷ no-call ∷ a ∷ a ∷ []) (a ∷ a ∷ no-call ∷ a ∷ a ∷ []) 1 (0 ∷ 0 ∷ 2 ∷ 3 ∷ 3 ∷ 2 ∷ []) 4 800  -- equal: equal starts
     ∷ chosen (a ∷ b ∷ a ∷ []) (a ∷ b ∷ b ∷ []) true  -- they differ at the last position only
     ∷ chosen (a ∷ b ∷ b ∷ []) (a ∷ b ∷ a ∷ []) false
