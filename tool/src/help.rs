@@ -36,6 +36,7 @@ Operands
   One file that holds both fish, or two files with one each. A file is text or
   records; the tool sees which ('sigxume encode --help' tells of both). - is
   standard input. Where there are more than two fish, --fish names the two.
+  Which of the two is first changes the sides of the tiles, and nothing else.
 "
     };
     (output) => {
