@@ -15,6 +15,7 @@ pub mod json;
 pub mod matrix;
 pub mod matrix_bad;
 pub mod matrix_large;
+pub mod matrix_mirror;
 pub mod options;
 pub mod output;
 pub mod picture;

@@ -2,25 +2,24 @@
 
 use sigxume::Tile;
 
-/// For each tile, whether it is in the chain with the most words. Of several such chains, it is that which
-/// ends first in the first sequence, and so on back from there.
+/// For each tile, whether it is in the chain with the most words. Of several such chains, it is that whose last
+/// tile was laid first, and so on back from there: so it is the same chain if the sequences are exchanged.
 pub fn heaviest(tiles: &[Tile]) -> Vec<bool> {
     let mut order = Vec::from_iter(0..tiles.len());
     order.sort_by_key(|&at| tiles[at].first);
-    // For each tile in this order, the words of the heaviest chain that ends with it, and the tile before it
-    // there.
-    let mut chains: Vec<(usize, Option<usize>)> = Vec::with_capacity(order.len());
-    for (rank, &at) in order.iter().enumerate() {
-        let before = (0..rank).filter(|&other| follows(tiles[at], tiles[order[other]]));
+    // For each tile, the words of the heaviest chain that ends with it, and the tile before it there.
+    let mut chains = vec![(0, None); tiles.len()];
+    for at in order {
+        let before = (0..tiles.len()).filter(|&other| follows(tiles[at], tiles[other]));
         let best = heavier(before, &chains);
         let words = best.map_or(0, |best| chains[best].0);
-        chains.push((words + tiles[at].length, best));
+        chains[at] = (words + tiles[at].length, best);
     }
     let mut kept = vec![false; tiles.len()];
-    let mut next = heavier(0..chains.len(), &chains);
-    while let Some(rank) = next {
-        kept[order[rank]] = true;
-        next = chains[rank].1;
+    let mut next = heavier(0..tiles.len(), &chains);
+    while let Some(at) = next {
+        kept[at] = true;
+        next = chains[at].1;
     }
     kept
 }
@@ -30,7 +29,7 @@ fn heavier(
     among: impl DoubleEndedIterator<Item = usize>,
     chains: &[(usize, Option<usize>)],
 ) -> Option<usize> {
-    among.rev().max_by_key(|&rank| chains[rank].0)
+    among.rev().max_by_key(|&at| chains[at].0)
 }
 
 fn follows(tile: Tile, other: Tile) -> bool {

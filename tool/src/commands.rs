@@ -4,10 +4,10 @@ use crate::cover::{self, Covered};
 use crate::failure::Failure;
 use crate::fish::{self, Fish};
 use crate::input::{Form, Reader};
+use crate::layout::{Layout, Lines, Table};
 use crate::matrix::Matrix;
 use crate::output::{self, Output};
 use crate::pairs::Pairs;
-use crate::table::Table;
 use crate::usage::Arguments;
 use crate::{curves, listing, plot, text};
 use sigxume::{bytes_of_words, Comparer, Refusal, Tiling};
@@ -100,20 +100,22 @@ pub fn matrix(arguments: Arguments) -> Result<(), Failure> {
     let pairs = Pairs::count(fish.len());
     let cores = || thread::available_parallelism().map_or(1, NonZeroUsize::get);
     let matrix = Matrix {
-        table: Table {
-            fish: &fish,
-            lines: arguments.pairs,
-        },
+        fish: &fish,
         minimum: arguments.minimum,
         pairs: arguments.part.map_or(0..pairs, |part| part.of(pairs)),
         threads: arguments.threads.map_or_else(cores, NonZeroUsize::get),
     };
+    let mut layout: Box<dyn Layout> = if arguments.pairs {
+        Box::new(Lines { fish: &fish })
+    } else {
+        Box::new(Table::new(&fish))
+    };
     let mut output = Output::open(arguments.output.as_deref())?;
     if arguments.part.is_none_or(|part| part.number == 1) {
-        output.write(matrix.table.head().as_bytes())?;
+        output.write(layout.head().as_bytes())?;
     }
-    matrix.write(&mut output)?;
-    output.write(matrix.table.tail().as_bytes())?;
+    matrix.write(&mut *layout, &mut output)?;
+    output.write(layout.tail().as_bytes())?;
     output.finish()?;
     if reader.left_out {
         return Err(Failure::Quiet);

@@ -36,6 +36,7 @@ Operands
   One file that holds both fish, or two files with one each. A file is text or
   records; the tool sees which ('sigxume encode --help' tells of both). - is
   standard input. Where there are more than two fish, --fish names the two.
+  Which of the two is first changes the sides of the tiles, and nothing else.
 "
     };
     (output) => {
@@ -312,15 +313,17 @@ Options
     shared!(minimum),
     "
 The table
-  A row and a column for each fish, in the order read. Each pair is there once,
-  in the row of the earlier fish and the column of the later one:
+  A row and a column for each fish, in the order read. Each pair is compared
+  once, and its score stands in both halves, as it does not matter which of the
+  two is first. No fish is compared with itself:
 
     fish,12,13,14
     12,,736,500
-    13,,,800
-    14,,,
+    13,736,,800
+    14,500,800,
 
-  With --pairs, the row and the column are counted from 1:
+  With --pairs each pair stands once, in the order of the rows; the row and the
+  column are counted from 1:
 
     row,column,first_fish,second_fish,tiles,covered,score
     1,2,12,13,3,7,736

@@ -11,6 +11,7 @@ mod failure;
 mod fish;
 mod help;
 mod input;
+mod layout;
 mod listing;
 mod matrix;
 mod output;
@@ -18,7 +19,6 @@ mod pairs;
 mod plot;
 mod progress;
 mod svg;
-mod table;
 mod text;
 mod usage;
 

@@ -1,11 +1,12 @@
-//! Every pair of fish: the comparisons are shared out among threads, and their text is written in order.
+//! Every pair of fish: the comparisons are shared out among threads, and their answers are written in order.
 
 use crate::failure::Failure;
+use crate::fish::Fish;
+use crate::layout::Layout;
 use crate::output::Output;
-use crate::pairs::Pairs;
+use crate::pairs::{Pair, Pairs};
 use crate::progress::Progress;
-use crate::table::Table;
-use sigxume::{Comparer, Refusal};
+use sigxume::{Comparer, Comparison, Refusal};
 use std::collections::BTreeMap;
 use std::iter;
 use std::ops::Range;
@@ -14,7 +15,7 @@ use std::sync::{Mutex, PoisonError};
 use std::thread::{self, Builder};
 
 pub struct Matrix<'a> {
-    pub table: Table<'a>,
+    pub fish: &'a [Fish],
     pub minimum: u32,
     /// The numbers of the pairs that are compared.
     pub pairs: Range<usize>,
@@ -28,18 +29,18 @@ const MOST: usize = 32;
 const OUT: usize = 64;
 
 /// Pairs that a thread compares in one go, with their place in the order.
-type Chunk = (usize, Vec<(usize, usize)>);
+type Chunk = (usize, Vec<Pair>);
 
-/// The text of a chunk, or why there is none.
-type Answer = (usize, Result<String, Refusal>);
+/// The pairs of a chunk with what was answered of each, or why there is nothing.
+type Answer = (usize, Result<Vec<(Pair, Comparison)>, Refusal>);
 
 impl Matrix<'_> {
-    /// Compares the pairs and writes them.
-    pub fn write(&self, output: &mut Output) -> Result<(), Failure> {
+    /// Compares the pairs and writes them in a layout.
+    pub fn write(&self, layout: &mut dyn Layout, output: &mut Output) -> Result<(), Failure> {
         let total = self.pairs.len();
         let size = (total / self.threads / 64).clamp(1, MOST);
         let threads = self.threads.min(total.div_ceil(size));
-        let mut pairs = Pairs::from(self.table.fish.len(), self.pairs.start).take(total);
+        let mut pairs = Pairs::from(self.fish.len(), self.pairs.start).take(total);
         let chunks = iter::repeat_with(|| Vec::from_iter(pairs.by_ref().take(size)));
         let mut chunks = chunks.enumerate().take(total.div_ceil(size));
 
@@ -60,7 +61,7 @@ impl Matrix<'_> {
             }
             drop(answer);
             // The queue ends here, and so do the threads, whether all is written or writing has failed.
-            self.collect(chunks, size, queue, answers, output)
+            self.collect(chunks, size, queue, answers, layout, output)
         })
     }
 
@@ -72,6 +73,7 @@ impl Matrix<'_> {
         size: usize,
         queue: Sender<Chunk>,
         answers: Receiver<Answer>,
+        layout: &mut dyn Layout,
         output: &mut Output,
     ) -> Result<(), Failure> {
         let total = self.pairs.len();
@@ -80,12 +82,14 @@ impl Matrix<'_> {
         let mut next = 0;
         let mut text = String::new();
         while next * size < total {
-            let Ok((number, answer)) = answers.recv() else {
+            let Ok((number, compared)) = answers.recv() else {
                 return Err(Failure::Message("no thread could be started".into()));
             };
-            early.insert(number, answer?);
-            while let Some(answer) = early.remove(&next) {
-                text += &answer;
+            early.insert(number, compared?);
+            while let Some(compared) = early.remove(&next) {
+                for (pair, answer) in compared {
+                    layout.pair(&mut text, pair, answer);
+                }
                 next += 1;
                 if let Some(chunk) = chunks.next() {
                     send(&queue, chunk);
@@ -111,8 +115,8 @@ impl Matrix<'_> {
             let Ok((number, pairs)) = chunk else {
                 return;
             };
-            let text = self.compare_pairs(&mut comparer, &pairs);
-            if answer.send((number, text)).is_err() {
+            let compared = self.compare_pairs(&mut comparer, pairs);
+            if answer.send((number, compared)).is_err() {
                 return;
             }
         }
@@ -121,15 +125,14 @@ impl Matrix<'_> {
     fn compare_pairs(
         &self,
         comparer: &mut Comparer,
-        pairs: &[(usize, usize)],
-    ) -> Result<String, Refusal> {
-        let mut text = String::new();
-        for &(row, column) in pairs {
-            let [first, second] = [row, column].map(|at| &self.table.fish[at].sequence);
+        pairs: Vec<Pair>,
+    ) -> Result<Vec<(Pair, Comparison)>, Refusal> {
+        let compare = |(row, column): Pair| {
+            let [first, second] = [row, column].map(|at| &self.fish[at].sequence);
             let tiling = comparer.compare(first, second, self.minimum)?;
-            self.table.pair(&mut text, row, column, &tiling.answer());
-        }
-        Ok(text)
+            Ok(((row, column), tiling.answer()))
+        };
+        pairs.into_iter().map(compare).collect()
     }
 }
 

@@ -3,8 +3,10 @@
 use crate::usage::Part;
 use std::ops::Range;
 
-/// Goes through the pairs, each as its row and its column.
-#[derive(Clone)]
+/// The row and the column of a pair.
+pub type Pair = (usize, usize);
+
+/// Goes through the pairs.
 pub struct Pairs {
     fish: usize,
     row: usize,
@@ -30,7 +32,7 @@ impl Pairs {
 }
 
 impl Iterator for Pairs {
-    type Item = (usize, usize);
+    type Item = Pair;
 
     fn next(&mut self) -> Option<Self::Item> {
         if self.column >= self.fish {

@@ -35,14 +35,17 @@ struct Times {
     processors: f64,
 }
 
+/// The scores of a table, row by row; on the diagonal there is none.
+type Cells = Vec<Vec<Option<u32>>>;
+
 /// The scores of all pairs, by so many threads that take the next pair in turn, and the time.
-fn compare_all(sequences: &[Vec<u32>], threads: usize) -> (Vec<u32>, f64) {
+fn compare_all(sequences: &[Vec<u32>], threads: usize) -> (Cells, f64) {
     let pairs = Vec::from_iter(
         (0..sequences.len()).flat_map(|i| (i + 1..sequences.len()).map(move |j| (i, j))),
     );
     let next = AtomicUsize::new(0);
     let start = Instant::now();
-    let mut scores = thread::scope(|scope| {
+    let scores = thread::scope(|scope| {
         let work = || {
             let mut comparer = Comparer::new();
             let mut scores = Vec::new();
@@ -57,8 +60,12 @@ fn compare_all(sequences: &[Vec<u32>], threads: usize) -> (Vec<u32>, f64) {
         Vec::from_iter(done.flatten())
     });
     let time = start.elapsed().as_secs_f64();
-    scores.sort_unstable();
-    (scores.into_iter().map(|(_, score)| score).collect(), time)
+    let mut cells = vec![vec![None; sequences.len()]; sequences.len()];
+    for ((i, j), score) in scores {
+        cells[i][j] = Some(score);
+        cells[j][i] = Some(score);
+    }
+    (cells, time)
 }
 
 /// The table that the tool writes, and its times as the shell measures them.
@@ -89,13 +96,10 @@ fn run_tool(file: &Path, threads: usize) -> io::Result<(String, Times)> {
     }
 }
 
-/// The scores in a table, row by row.
-fn scores_of(table: &str) -> Vec<u32> {
-    let cells = table
-        .lines()
-        .skip(1)
-        .flat_map(|line| line.split(',').skip(1));
-    cells.filter_map(|cell| cell.parse().ok()).collect()
+fn cells_of(table: &str) -> Cells {
+    let rows = table.lines().skip(1).map(|line| line.split(',').skip(1));
+    rows.map(|row| row.map(|cell| cell.parse().ok()).collect())
+        .collect()
 }
 
 fn median(mut times: Vec<f64>) -> f64 {
@@ -134,10 +138,10 @@ pub fn compare_matrix(promises: &mut Promises) -> io::Result<()> {
     let mut tool = counts.map(|_| Vec::new());
     for _ in 0..RUNS {
         for (at, &threads) in counts.iter().enumerate() {
-            let (scores, time) = compare_all(&sequences, threads);
+            let (cells, time) = compare_all(&sequences, threads);
             alone[at].push(time);
             let (table, times) = run_tool(&file.0, threads)?;
-            if scores != scores_of(&table) {
+            if cells != cells_of(&table) {
                 return Err(io::Error::other("the matrix has other scores"));
             }
             tool[at].push(times);

@@ -7,8 +7,8 @@ use sigxume_tests::comparisons::{self, exchange, laws, limits, mistakes, restart
 use sigxume_tests::cover;
 use sigxume_tests::group::Group;
 use sigxume_tests::tool::{
-    self, bad_lines, bad_records, compare, curves, json, matrix, matrix_bad, matrix_large, options,
-    output, plot, progress, round_trips, usage,
+    self, bad_lines, bad_records, compare, curves, json, matrix, matrix_bad, matrix_large,
+    matrix_mirror, options, output, plot, progress, round_trips, usage,
 };
 use sigxume_tests::{baselines, documents, hashes, known, library, program, records, stack, words};
 use std::process::ExitCode;
@@ -123,6 +123,7 @@ const GROUPS: &[Row] = &[
     ("tool: matrix", 67, matrix::matrix),
     ("tool: matrix, bad input", 68, matrix_bad::bad_input),
     ("tool: matrix, 64 records", 69, matrix_large::large),
+    ("tool: matrix, mirrored", 90, matrix_mirror::mirrored),
     ("tool: output", 70, output::output),
     ("tool: options", 71, options::options),
     ("tool: usage", 72, usage::usage),

@@ -132,26 +132,25 @@ fn example(g: &mut Group, tool: &Tool) {
         .zip(words)
         .map(|(id, name)| Fish::new(id, &letters(name)))
         .collect();
-    let lines = text(&all);
     let case = format_args!("example");
-    let table = "fish,12,13,14,15\n12,,736,444,0\n13,,,285,0\n14,,,,0\n15,,,,\n";
-    let args = ["matrix", "-m", "1", "-"];
-    tool.expect(g, case, &args, &lines, &Expected::prints(table));
-    let list =
-        "row,column,first_fish,second_fish,tiles,covered,score\n1,2,12,13,3,7,736\n1,3,12,14,1,2,444\n\
-                1,4,12,15,0,0,0\n2,3,13,14,1,2,285\n2,4,13,15,0,0,0\n3,4,14,15,0,0,0\n";
-    let args = ["matrix", "-m", "1", "-", "--pairs"];
-    tool.expect(g, case, &args, &lines, &Expected::prints(list));
-    for input in [&b""[..], b"12\n"] {
+    let heading = "row,column,first_fish,second_fish,tiles,covered,score\n";
+    for (count, table, list) in [
+        (0, "fish\n", ""),
+        (1, "fish,12\n12,\n", ""),
+        (2, "fish,12,13\n12,,736\n13,736,\n", "1,2,12,13,3,7,736\n"),
+        (
+            4,
+            "fish,12,13,14,15\n12,,736,444,0\n13,736,,285,0\n14,444,285,,0\n15,0,0,0,\n",
+            "1,2,12,13,3,7,736\n1,3,12,14,1,2,444\n1,4,12,15,0,0,0\n2,3,13,14,1,2,285\n2,4,13,15,0,0,0\n\
+             3,4,14,15,0,0,0\n",
+        ),
+    ] {
+        let input = text(&all[..count]);
         let args = ["matrix", "-m", "1", "-"];
-        let table = match input {
-            b"" => "fish\n",
-            _ => "fish,12\n12,\n",
-        };
-        tool.expect(g, case, &args, input, &Expected::prints(table));
-        let args = ["matrix", "-m", "1", "--pairs", "-"];
-        let list = "row,column,first_fish,second_fish,tiles,covered,score\n";
-        tool.expect(g, case, &args, input, &Expected::prints(list));
+        tool.expect(g, case, &args, &input, &Expected::prints(table));
+        let args = ["matrix", "-m", "1", "-", "--pairs"];
+        let list = heading.to_string() + list;
+        tool.expect(g, case, &args, &input, &Expected::prints(list));
     }
 }
 

@@ -25,7 +25,7 @@ pub fn large(g: &mut Group) {
         g.equal(format_args!("fish {a} and {b}"), tiles, literal);
     }
     // The families show: the pairs within one have the higher scores.
-    let alike = matrix.cells.iter().filter(|cell| cell.score > 300).count();
+    let alike = matrix.pairs().filter(|(_, cell)| cell.score > 300).count();
     g.equal(format_args!("pairs within families"), alike, 8 * 28);
     for (number, fish) in all.iter().enumerate() {
         tool.put(&format!("folder/{number:02}"), fish.record());

@@ -51,13 +51,16 @@ fn says(texts: &str, word: &str, number: usize) -> bool {
     })
 }
 
+/// The tiles of what the script printed of one picture, and whether each is kept.
+pub fn tiles(printed: &str) -> Option<Vec<(Tile, bool)>> {
+    svg::after(printed, "tile").into_iter().map(tile).collect()
+}
+
 /// Checks what the script printed of one picture.
 pub fn check(g: &mut Group, case: Arguments, printed: &str, compared: &Compared) {
     let count = format!("tiles {}", compared.tiles.len());
     svg::has(g, case, printed, &["groups True", "inside True", &count]);
-    let tiles = svg::after(printed, "tile").into_iter();
-    let tiles: Option<Vec<(Tile, bool)>> = tiles.map(tile).collect();
-    let Some(tiles) = tiles else {
+    let Some(tiles) = tiles(printed) else {
         return g.equal(format_args!("{case}: every line is a tile"), false, true);
     };
     let laid: Vec<Tile> = tiles.iter().map(|&(tile, _)| tile).collect();

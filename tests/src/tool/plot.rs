@@ -10,7 +10,7 @@ use super::{picture, svg};
 use crate::group::Group;
 use crate::known;
 use crate::pairs::distinct;
-use crate::reference::MINIMUM;
+use crate::reference::{exchanged, Tile, MINIMUM};
 
 /// Pairs whose tiles are told apart in every way: all kept, one kept, chains of equal weight.
 fn made() -> Vec<([Fish; 2], u32)> {
@@ -39,13 +39,18 @@ fn made() -> Vec<([Fish; 2], u32)> {
         .collect()
 }
 
-/// Known, made, random, empty and large pairs.
+/// Known, made, random, empty and large pairs, and the same with the fish exchanged.
 pub fn plot(g: &mut Group) {
     let tool = Tool::new(g);
     let mut pairs = known_pairs();
     pairs.extend(made());
     pairs.extend((0..60).map(|_| any_fish_pair(g)));
     pairs.extend(larger(g));
+    let count = pairs.len();
+    for at in 0..count {
+        let ([first, second], minimum) = pairs[at].clone();
+        pairs.push(([second, first], minimum));
+    }
     for (number, (pair, minimum)) in pairs.iter().enumerate() {
         let minimum = minimum.to_string();
         let args = ["plot", "-m", &minimum, "-"];
@@ -68,6 +73,19 @@ pub fn plot(g: &mut Group) {
     for (number, (part, (pair, minimum))) in parts.iter().zip(&pairs).enumerate() {
         let compared = Compared::new(&pair[0], &pair[1], *minimum);
         picture::check(g, format_args!("pair {number}"), part, &compared);
+    }
+    // The same tiles are kept.
+    for (number, (part, other)) in parts.iter().zip(&parts[count..]).enumerate() {
+        let [one_way, other_way] = [part, other].map(|printed| {
+            let (tiles, kept): (Vec<Tile>, Vec<bool>) =
+                picture::tiles(printed)?.into_iter().unzip();
+            Some((tiles, kept))
+        });
+        g.equal(
+            format_args!("pair {number}, exchanged"),
+            other_way,
+            one_way.map(|(tiles, kept)| (exchanged(tiles), kept)),
+        );
     }
     chosen(g, &tool);
     bad(g, &tool);

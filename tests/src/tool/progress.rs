@@ -1,11 +1,12 @@
 //! The progress bar of `matrix`: at a terminal it is there and wiped in the end, elsewhere it is not.
 
 use super::expected::differing;
-use super::fish::{fish, records, text};
+use super::fish::{fish, records, text, Fish};
 use super::matrix::related_fish;
-use super::results::Matrix;
+use super::results::{Cell, Compared, Matrix};
 use super::{Tool, PROGRAMS};
 use crate::group::Group;
+use crate::pairs::calls;
 use crate::process::lossy;
 use std::process::{Command, Stdio};
 
@@ -105,7 +106,7 @@ pub fn progress(g: &mut Group) {
             let screen = shown(&bytes)
                 .map(|screen| differing(screen.as_bytes(), printed.trim_end().as_bytes()));
             g.equal(format_args!("{case}: the screen"), screen, Ok(None));
-            let count = format!("0 of {} pairs", matrix.cells.len());
+            let count = format!("0 of {} pairs", matrix.pairs().count());
             let drawn = lossy(&bytes).contains(&count);
             g.equal(format_args!("{case}: the bar"), drawn, bar);
             let out = tool.get("out").unwrap_or_default();
@@ -118,7 +119,61 @@ pub fn progress(g: &mut Group) {
         }
     }
     left_out(g, &tool, &table);
+    midway(g, &tool);
     encode(g, &tool);
+}
+
+/// Very many fish, so that rows are long and the bar is drawn several times, and their matrix. They are of eight kinds,
+/// each with each compared once.
+fn many_fish(g: &mut Group) -> (Vec<Fish>, Matrix) {
+    const KINDS: usize = 8;
+    let kinds = [(); KINDS].map(|()| Fish::new(0, &calls(&mut g.random, 120, 4)));
+    let cells = kinds.each_ref().map(|first| {
+        let cell = |second: &Fish| Cell::of(&Compared::new(first, second, 1));
+        kinds.each_ref().map(cell)
+    });
+    let kind = |id: u16| usize::from(id) % KINDS;
+    let all = Vec::from_iter((0..400).map(|id| Fish::new(id, &kinds[kind(id)].words)));
+    let cell = |first: &Fish, second: &Fish| cells[kind(first.id)][kind(second.id)];
+    let matrix = Matrix::of(&all, cell);
+    (all, matrix)
+}
+
+/// Whenever the bar is drawn, the lines of all that is done are there, and nothing of the next.
+fn midway(g: &mut Group, tool: &Tool) {
+    let (all, matrix) = many_fish(g);
+    tool.put("many", records(&all));
+    let rows = Vec::from_iter(matrix.pairs().map(|([row, _], _)| row));
+    for (option, made) in [("", matrix.table()), ("--pairs", matrix.whole_list())] {
+        let line = format!("sigxume matrix -m 1 --threads=1 {option} many");
+        let bytes = at_terminal(tool, &line).map(|(_, bytes)| bytes);
+        let bytes = lossy(&bytes.unwrap_or_default());
+        let mut written = String::new();
+        let (mut wrong, mut between) = (None, false);
+        for piece in bytes.split("\r\x1B[K") {
+            let (lines, bar) = piece.split_once("\r[").unwrap_or((piece, ""));
+            written += &lines.replace("\r\n", "\n");
+            let Some((_, counts)) = bar.split_once("] ") else {
+                continue;
+            };
+            let done = counts.strip_suffix(&format!(" of {} pairs", rows.len()));
+            let done = done.map_or(0, |done| done.parse().expect("a count"));
+            let lines = match option {
+                "--pairs" => done,
+                _ => rows.get(done).map_or(all.len(), |row| *row) - 1,
+            };
+            let due: String = made.split_inclusive('\n').take(1 + lines).collect();
+            wrong = wrong.or(differing(written.as_bytes(), due.as_bytes()));
+            between |= 0 < done && done < rows.len();
+        }
+        g.equal(
+            format_args!("{line}: midway"),
+            (wrong, between),
+            (None, true),
+        );
+        let difference = differing(written.as_bytes(), made.as_bytes());
+        g.equal(format_args!("{line}: in the end"), difference, None);
+    }
 }
 
 /// What is left out is said on lines of their own before the table.

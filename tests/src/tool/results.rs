@@ -157,26 +157,40 @@ impl Cell {
     }
 }
 
-/// Every pair of some fish, by rows: (1, 2), (1, 3), .., (2, 3), ..
-pub fn pairs(fish: usize) -> impl Iterator<Item = (usize, usize)> {
-    (0..fish).flat_map(move |row| (row + 1..fish).map(move |column| (row, column)))
-}
-
-/// The numbers of fish and the cells of all their pairs, by rows.
+/// The numbers of fish and the cells of every two of them, by rows: a fish has none with itself.
 pub struct Matrix {
     pub ids: Vec<u16>,
-    pub cells: Vec<Cell>,
+    pub rows: Vec<Vec<Option<Cell>>>,
 }
 
 impl Matrix {
+    /// Each cell is a comparison of its own, the row's fish being the first.
     pub fn new(fish: &[Fish], minimum: u32) -> Self {
-        let cell = |(row, column): (usize, usize)| {
-            Cell::of(&Compared::new(&fish[row], &fish[column], minimum))
+        Self::of(fish, |first, second| {
+            Cell::of(&Compared::new(first, second, minimum))
+        })
+    }
+
+    /// From the cell of any two.
+    pub fn of(fish: &[Fish], cell: impl Fn(&Fish, &Fish) -> Cell) -> Self {
+        let row = |(at, first): (usize, &Fish)| {
+            let others = fish.iter().enumerate();
+            let cells = others.map(|(other, second)| (other != at).then(|| cell(first, second)));
+            cells.collect()
         };
         Self {
             ids: fish.iter().map(|fish| fish.id).collect(),
-            cells: pairs(fish.len()).map(cell).collect(),
+            rows: fish.iter().enumerate().map(row).collect(),
         }
+    }
+
+    /// Each pair once, by rows: (1, 2), (1, 3), .., (2, 3), ..; its row and column are counted from 1.
+    pub fn pairs(&self) -> impl Iterator<Item = ([usize; 2], Cell)> + '_ {
+        let rows = (1..).zip(&self.rows);
+        rows.flat_map(|(row, cells)| {
+            let later = (1..).zip(cells).skip(row);
+            later.map(move |(column, cell)| ([row, column], cell.expect("two fish")))
+        })
     }
 
     /// The table of scores.
@@ -186,14 +200,10 @@ impl Matrix {
             table += &format!(",{id}");
         }
         table += "\n";
-        let mut scores = self.cells.iter().map(|cell| cell.score.to_string());
-        for (row, id) in self.ids.iter().enumerate() {
+        for (id, cells) in self.ids.iter().zip(&self.rows) {
             table += &id.to_string();
-            for column in 0..self.ids.len() {
-                table += ",";
-                if column > row {
-                    table += &scores.next().expect("a cell for each pair");
-                }
+            for cell in cells {
+                table += &cell.map_or(",".into(), |cell| format!(",{}", cell.score));
             }
             table += "\n";
         }
@@ -202,14 +212,11 @@ impl Matrix {
 
     /// The list of pairs: its heading, and its other lines.
     pub fn list(&self) -> (String, Vec<String>) {
-        let lines = pairs(self.ids.len()).zip(&self.cells);
-        let lines = lines.map(|((row, column), cell)| {
+        let lines = self.pairs().map(|([row, column], cell)| {
             format!(
-                "{},{},{},{},{},{},{}\n",
-                row + 1,
-                column + 1,
-                self.ids[row],
-                self.ids[column],
+                "{row},{column},{},{},{},{},{}\n",
+                self.ids[row - 1],
+                self.ids[column - 1],
                 cell.tiles,
                 cell.covered,
                 cell.score
