@@ -10,7 +10,7 @@ use crate::group::Group;
 use crate::pairs::{calls, shuffled};
 use crate::process::lossy;
 use crate::random::Random;
-use crate::reference::{covered, tiling};
+use crate::reference::{covered, pattern_tiling};
 use crate::samples::NO_CALL;
 use std::fmt::Arguments;
 
@@ -113,13 +113,16 @@ fn equally_long(random: &mut Random, count: u16, length: usize) -> Vec<Fish> {
     (1..=count).map(fish).collect()
 }
 
-/// Whether it matters to the score of two fish with equally many words which is the pattern. A no-call more makes the
-/// other the longer one, and covers nothing.
+/// Whether it matters to the score of two fish with equally many words which is the pattern.
 fn pattern_matters(first: &Fish, second: &Fish, minimum: u32) -> bool {
-    let longer = |fish: &Fish| [&fish.words[..], &[NO_CALL]].concat();
-    let by_first = tiling(&first.words, &longer(second), minimum as usize);
-    let by_second = tiling(&longer(first), &second.words, minimum as usize);
-    covered(&by_first) != covered(&by_second)
+    let [one, other] = [[first, second], [second, first]].map(|[pattern, text]| {
+        covered(&pattern_tiling(
+            &pattern.words,
+            &text.words,
+            minimum as usize,
+        ))
+    });
+    one != other
 }
 
 /// Fish with equally many words, and with any.
