@@ -2,10 +2,10 @@
 //! with itself.
 
 use crate::known::letters;
-use crate::pairs::{any_pair, calls, longest_first, Pair};
+use crate::pairs::{any_pair, broken, calls, distinct, longest_first, periodic, Pair};
 use crate::random::Random;
-use crate::reference::Tile;
-use crate::samples::{call, NO_CALL};
+use crate::reference::{Tile, MAX_WORDS};
+use crate::samples::{call, with, NO_CALL};
 
 /// A pair of any kind, both sides filled up with calls to so many words.
 pub fn equal_pair(random: &mut Random, length: usize, codes: u16) -> Pair {
@@ -37,7 +37,21 @@ const TELLING: [(&str, &str, &[[usize; 3]]); 2] = [
 ];
 
 /// The words after the front of a pair that [`decided`] makes.
-pub const AFTER_FRONT: usize = 6;
+const AFTER_FRONT: usize = 6;
+
+/// What pairs begin with on both sides before they first differ: nothing, calls of codes that occur once,
+/// no-calls, and calls with no-calls at the start, in the middle and at the end. Two equal no-calls do not match
+/// and do not differ.
+pub fn fronts() -> Vec<Vec<u32>> {
+    let mut fronts = vec![Vec::new()];
+    for length in [1, 2, 3, 20, MAX_WORDS - AFTER_FRONT] {
+        let calls = distinct(10_000, length);
+        let ends = [0, length / 2, length - 1];
+        fronts.extend(ends.map(|at| with(&calls, at, NO_CALL)));
+        fronts.extend([calls, vec![NO_CALL; length]]);
+    }
+    fronts
+}
 
 /// Pairs of pattern and text that begin with the same front and then differ first in these two words, of which
 /// the smaller is the pattern's; a no-call and the telling words come after. And their tiles, which are known
@@ -68,4 +82,23 @@ pub fn stretches(words: &[u32]) -> Vec<Tile> {
         at += stretch.len() + 1;
     }
     longest_first(tiles)
+}
+
+/// Sequences to compare with themselves: with repeats, and with no-calls or without.
+pub fn with_themselves(random: &mut Random) -> Vec<Vec<u32>> {
+    let mut all = vec![
+        Vec::new(),
+        vec![NO_CALL; 30],
+        vec![NO_CALL; MAX_WORDS],
+        vec![call(7); MAX_WORDS],
+        broken(7, MAX_WORDS),
+        periodic(MAX_WORDS, 7, 0),
+        calls(random, MAX_WORDS, 2),
+    ];
+    for longest in [4, 12, 40, 300].repeat(250) {
+        let codes = random.pick(&[1, 2, 3, 4]);
+        let [words, _] = any_pair(random, longest, codes);
+        all.push(words);
+    }
+    all
 }

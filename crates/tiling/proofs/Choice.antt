@@ -7,11 +7,11 @@ use native.Mathlib.Omega.{arith}
 use mathlib.Core.Path.{_≡_, refl, sym, _∙_, ap}
 use mathlib.Core.Bool.{Bool, true, false, not}
 use mathlib.Core.List.{List, [], _∷_}
-use mathlib.Core.Logic.{_⊎_, inl, inr}
+use mathlib.Core.Logic.{inl, inr}
 use borrow.Author.Tests.{eq-eqb, ne-eqb, lt-ltb, le-ltb, eqb-true, eqb-false, ltb-true}
 use lib.Dec.{eqb, ltb}
 use lib.ListN.{length}
-use Rattle.tiling.specs.Choice.{firstByWords, firstIsPattern}
+use Rattle.tiling.specs.Choice.{firstByWords, firstIsPattern, EitherWay}
 
 -- ---- by the words
 pub words-equal : (x y : ℕ) (xs ys : List ℕ) → x ≡ y → firstByWords (x ∷ xs) (y ∷ ys) ≡ firstByWords xs ys
@@ -51,28 +51,27 @@ differ-turn x y d = go (decLt x y)
         let m : y < x = omega (arith, h, d) in
         rw (le-ltb x y l, lt-ltb y x m) refl
 
--- The same one is chosen, or there is nothing to choose.
-words-turn : (xs ys : List ℕ) → length xs ≡ length ys → (firstByWords ys xs ≡ not (firstByWords xs ys)) ⊎ (xs ≡ ys)
+words-turn : (xs ys : List ℕ) → length xs ≡ length ys → EitherWay firstByWords xs ys
 words-turn [] [] e = inr refl
 words-turn [] (y ∷ ys) e = absurd (omega (arith, e))
 words-turn (x ∷ xs) [] e = absurd (omega (arith, e))
 words-turn (x ∷ xs) (y ∷ ys) e = go (eqb x y) refl (words-turn xs ys (omega (arith, e)))
   where
-    go : (b : Bool) → eqb x y ≡ b → (firstByWords ys xs ≡ not (firstByWords xs ys)) ⊎ (xs ≡ ys) → (firstByWords (y ∷ ys) (x ∷ xs) ≡ not (firstByWords (x ∷ xs) (y ∷ ys))) ⊎ (_≡_ {A = List ℕ} (x ∷ xs) (y ∷ ys))
+    go : (b : Bool) → eqb x y ≡ b → EitherWay firstByWords xs ys → EitherWay firstByWords (x ∷ xs) (y ∷ ys)
     go true k (inl h) = let s : x ≡ y = eqb-true x y k in inl (rw (words-equal x y xs ys s, words-equal y x ys xs (sym s)) h)
     go true k (inr h) = let s : x ≡ y = eqb-true x y k in inr (ap (λ z. z ∷ xs) s ∙ ap (λ zs. y ∷ zs) h)
     go false k h =
         let d = eqb-false x y k in
         inl (rw (words-differ x y xs ys d, words-differ y x ys xs (λ s. d (sym s))) (differ-turn x y d))
 
-pub pattern-turn : (first second : List ℕ) → (firstIsPattern second first ≡ not (firstIsPattern first second)) ⊎ (first ≡ second)
+pub pattern-turn : (first second : List ℕ) → EitherWay firstIsPattern first second
 pattern-turn first second = go (eqb (length first) (length second)) refl
   where
-    same : length first ≡ length second → (firstByWords second first ≡ not (firstByWords first second)) ⊎ (first ≡ second) → (firstIsPattern second first ≡ not (firstIsPattern first second)) ⊎ (first ≡ second)
+    same : length first ≡ length second → EitherWay firstByWords first second → EitherWay firstIsPattern first second
     same e (inl h) = inl (rw (by-words first second e, by-words second first (sym e)) h)
     same e (inr h) = inr h
 
-    go : (b : Bool) → eqb (length first) (length second) ≡ b → (firstIsPattern second first ≡ not (firstIsPattern first second)) ⊎ (first ≡ second)
+    go : (b : Bool) → eqb (length first) (length second) ≡ b → EitherWay firstIsPattern first second
     go true k = let e = eqb-true (length first) (length second) k in same e (words-turn first second e)
     go false k =
         let d = eqb-false (length first) (length second) k in
@@ -82,6 +81,6 @@ pattern-turn first second = go (eqb (length first) (length second)) refl
 pub second-shorter : (first second : List ℕ) → firstIsPattern first second ≡ false → length second ≤ length first
 second-shorter first second e = go (pattern-turn first second)
   where
-    go : (firstIsPattern second first ≡ not (firstIsPattern first second)) ⊎ (first ≡ second) → length second ≤ length first
+    go : EitherWay firstIsPattern first second → length second ≤ length first
     go (inl t) = first-shorter second first (t ∙ ap not e)
     go (inr s) = omega (arith, ap length s)

@@ -8,14 +8,14 @@ use native.Mathlib.Omega.{arith}
 use mathlib.Core.Path.{_≡_, refl, sym, _∙_, ap}
 use mathlib.Core.Bool.{Bool, true, false, not}
 use mathlib.Core.List.{List, [], _∷_, _++_, map, map-map, map-append}
-use mathlib.Core.Logic.{_⊎_, inl, inr}
+use mathlib.Core.Logic.{inl, inr}
 use lib.ListN.{length, drop, length-map}
 use lib.Seq.{getD-drop}
 use Rattle.symbol.proofs.Word.{match-swap}
 use Rattle.tiling.specs.Each.{Each, none, also, Pairs}
 use Rattle.tiling.specs.Greedy.{after, Begins}
 use Rattle.tiling.specs.Tiling.{Tile, Lies, start, size, lay, tiling}
-use Rattle.tiling.specs.Choice.{firstIsPattern}
+use Rattle.tiling.specs.Choice.{firstIsPattern, EitherWay}
 use Rattle.tiling.specs.Listing.{Entry, straight, crossed, listing, covered, score}
 use Rattle.tiling.specs.Demand.{FreeRun, Stands, Apart, onFirst, onSecond, long, smallerCounts, exchanged, EqualStarts, Tiled}
 use Rattle.tiling.proofs.Run.{run-least}
@@ -143,7 +143,7 @@ exchanged-equal (e ∷ tiles) (also h r) =
 pub exchange : (first second : List ℕ) (minimum : ℕ) → listing second first minimum ≡ map exchanged (listing first second minimum)
 exchange first second minimum = go (pattern-turn first second) (firstIsPattern first second) refl
   where
-    go : (firstIsPattern second first ≡ not (firstIsPattern first second)) ⊎ (first ≡ second) → (b : Bool) → firstIsPattern first second ≡ b → listing second first minimum ≡ map exchanged (listing first second minimum)
+    go : EitherWay firstIsPattern first second → (b : Bool) → firstIsPattern first second ≡ b → listing second first minimum ≡ map exchanged (listing first second minimum)
     go (inl t) true e =
         listing-crossed second first minimum (t ∙ ap not e) ∙ ap (λ es. map exchanged es) (sym (listing-straight first second minimum e))
     go (inl t) false e =

@@ -1,6 +1,8 @@
 -- Which of two sequences is the pattern; the other is the text.
 use Prim.Native.Nat.{ℕ}
-use mathlib.Core.Bool.{Bool, true, false}
+use mathlib.Core.Logic.{_⊎_}
+use mathlib.Core.Path.{_≡_}
+use mathlib.Core.Bool.{Bool, true, false, not}
 use mathlib.Core.List.{List, [], _∷_}
 use lib.Dec.{eqb, ltb}
 use lib.ListN.{length}
@@ -19,3 +21,7 @@ unfoldable pub firstIsPattern : List ℕ → List ℕ → Bool
 firstIsPattern first second =
     elim (eqb (length first) (length second))
     [ true ↦ firstByWords first second | false ↦ ltb (length first) (length second) ]
+
+-- A choice between two sequences that falls on the same one whichever is handed in first; of equal ones there is nothing to choose.
+abbrev pub EitherWay : (List ℕ → List ℕ → Bool) → List ℕ → List ℕ → Type 0
+EitherWay firstChosen xs ys = (firstChosen ys xs ≡ not (firstChosen xs ys)) ⊎ (xs ≡ ys)

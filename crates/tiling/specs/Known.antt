@@ -1,6 +1,6 @@
 -- The pairs K1 to K11 and the windows K12 of 01 as one list of cases, and the test that each comes out as written. The cases after them
--- are ours: the shifts of 01's worked example, a pair that would come out otherwise if the text were not marked, and pairs of equal
--- length, in which the words choose the pattern.
+-- are ours: the shifts of 01's worked example, a pair that would come out otherwise if the text were not marked, pairs of equal length,
+-- in which the words choose the pattern, and choices by themselves.
 use Prim.Native.Nat.{ℕ, _+_, _^_}
 use mathlib.Core.Bool.{Bool, true, false, not, _&&_}
 use mathlib.Core.List.{List, [], _∷_}

@@ -4,13 +4,10 @@
 use super::plan::Plan;
 use super::{compare, engines, expect, listed, turned_back};
 use crate::engine::Engine;
-use crate::equal_length::{decided, equal_pair, rising, stretches, AFTER_FRONT};
+use crate::equal_length::{decided, equal_pair, fronts, rising, stretches, with_themselves};
 use crate::group::Group;
 use crate::known::Letters;
-use crate::pairs::{
-    any_pair, both_orders, broken, calls, distinct, families, periodic, Pair, Sides,
-};
-use crate::random::Random;
+use crate::pairs::{both_orders, families, Pair, Sides};
 use crate::reference::{covered, exchanged, pattern_tiling, tiling, MAX_MINIMUM, MAX_WORDS};
 use crate::samples::{call, with, NO_CALL};
 use std::fmt::Arguments;
@@ -65,20 +62,6 @@ pub fn random(g: &mut Group) {
     }
 }
 
-/// What pairs begin with on both sides before they first differ: nothing, calls of codes that occur once,
-/// no-calls, and calls with no-calls at the start, in the middle and at the end. Two equal no-calls do not match
-/// and do not differ.
-pub fn fronts() -> Vec<Vec<u32>> {
-    let mut fronts = vec![Vec::new()];
-    for length in [1, 2, 3, 20, MAX_WORDS - AFTER_FRONT] {
-        let calls = distinct(10_000, length);
-        let ends = [0, length / 2, length - 1];
-        fronts.extend(ends.map(|at| with(&calls, at, NO_CALL)));
-        fronts.extend([calls, vec![NO_CALL; length]]);
-    }
-    fronts
-}
-
 /// Pairs in which one word decides which sequence is the pattern, and the tiles show it: the first word, a
 /// later one, one behind no-calls, a call against a no-call. What comes after it would decide otherwise in half
 /// of them.
@@ -124,25 +107,6 @@ pub fn one_difference(g: &mut Group) {
             g.equal(format_args!("{case}: equal starts"), equal, true);
         }
     }
-}
-
-/// Sequences to compare with themselves: with repeats, and with no-calls or without.
-pub fn with_themselves(random: &mut Random) -> Vec<Vec<u32>> {
-    let mut all = vec![
-        Vec::new(),
-        vec![NO_CALL; 30],
-        vec![NO_CALL; MAX_WORDS],
-        vec![call(7); MAX_WORDS],
-        broken(7, MAX_WORDS),
-        periodic(MAX_WORDS, 7, 0),
-        calls(random, MAX_WORDS, 2),
-    ];
-    for longest in [4, 12, 40, 300].repeat(250) {
-        let codes = random.pick(&[1, 2, 3, 4]);
-        let [words, _] = any_pair(random, longest, codes);
-        all.push(words);
-    }
-    all
 }
 
 /// A sequence with itself, as one slice and as two: each tile has equal starts, and which of the two is the

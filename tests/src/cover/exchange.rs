@@ -1,9 +1,8 @@
 //! Covers of pairs of equal length, handed in either way.
 
 use super::{covered, turned_back, Problem};
-use crate::comparisons::exchange::{fronts, with_themselves};
 use crate::engine::any_settings;
-use crate::equal_length::{decided, equal_pair, rising, stretches};
+use crate::equal_length::{decided, equal_pair, fronts, rising, stretches, with_themselves};
 use crate::group::Group;
 use crate::known::Letters;
 use crate::reference::{exchanged, MAX_WORDS};
