@@ -5,10 +5,9 @@ use native.Mathlib.Nat.{not-suc-le-zero, le-of-suc-le-suc}
 use native.Mathlib.Omega.{arith}
 use native.Mathlib.Numerals.{add-one}
 use mathlib.Core.Path.{_≡_, refl, sym, _∙_}
-use mathlib.Core.Bool.{Bool, true, false, not, _&&_, and-assoc}
+use mathlib.Core.Bool.{Bool, true, _&&_, and-assoc, and-true}
 use mathlib.Core.List.{List, [], _∷_, _++_}
 use lib.ListN.{length, take, getD}
-use borrow.Author.Tests.{not-true, not-false}
 use lib.Seq.{take-suc, take-all}
 use Rattle.symbol.specs.Word.{isSound}
 use Rattle.symbol.specs.Sequence.{allSound}
@@ -26,31 +25,23 @@ sound-at [] e i h = absurd (not-suc-le-zero h)
 sound-at (x ∷ xs) e zero h = and-left (isSound x) (allSound xs) e
 sound-at (x ∷ xs) e (suc i) h = sound-at xs (and-right (isSound x) (allSound xs) e) i (le-of-suc-le-suc h)
 
--- ---- the loop of all_sound: every word before i is sound
-pub record Passed (s : List ℕ) (i : ℕ) : Type 0 where
+-- ---- the loop of all_sound: whether every word before i is sound
+pub record Passed (s : List ℕ) (i : ℕ) (all : Bool) : Type 0 where
   pub within : i ≤ length s
-  pub sound : allSound (take i s) ≡ true
+  pub sound : all ≡ allSound (take i s)
 
-pub passed-none : (s : List ℕ) → Passed s 0
+pub passed-none : (s : List ℕ) → Passed s 0 true
 unfolding allSound
 passed-none [] = record { within = omega arith; sound = refl }
 passed-none (x ∷ s) = record { within = omega arith; sound = refl }
 
-pub passed-more : (s : List ℕ) (i : ℕ) (t : Bool) → Passed s i → i < length s → t ≡ isSound (getD s i 0) → not t ≡ false → Passed s (i + 1)
+pub passed-more : (s : List ℕ) (i : ℕ) (all t : Bool) → Passed s i all → i < length s → t ≡ isSound (getD s i 0) → Passed s (i + 1) (all && t)
 unfolding allSound
-passed-more s i t r h k n =
-    let e : isSound (getD s i 0) ≡ true = sym k ∙ not-false t n in
+passed-more s i all t r h e =
     record {
       within = omega arith;
-      sound = rw (add-one i, take-suc s i 0 h, sound-append (take i s) (getD s i 0 ∷ []), r .sound, e) refl;
+      sound = rw (add-one i, take-suc s i 0 h, sound-append (take i s) (getD s i 0 ∷ []), ← r .sound, ← e, and-true t);
     }
 
-pub passed-all : (s : List ℕ) (i : ℕ) → Passed s i → length s ≤ i → true ≡ allSound s
-passed-all s i r h = sym (rw (take-all i s h) at (r .sound))
-
-pub stopped : (s : List ℕ) (i : ℕ) (t : Bool) → i < length s → t ≡ isSound (getD s i 0) → not t ≡ true → false ≡ allSound s
-stopped s i t h e n = go (allSound s) refl
-  where
-    go : (b : Bool) → allSound s ≡ b → false ≡ b
-    go true k = sym (not-true t n) ∙ (e ∙ sound-at s k i h)
-    go false k = refl
+pub passed-all : (s : List ℕ) (i : ℕ) (all : Bool) → Passed s i all → length s ≤ i → all ≡ allSound s
+passed-all s i all r h = rw (take-all i s h) at (r .sound)

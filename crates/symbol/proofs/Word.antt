@@ -1,11 +1,12 @@
 -- What the later layers may know of words: a call is a word in one range of numbers, two words match just when they are equal calls, and the word 0, by which a marked word is written, matches nothing.
 -- Assumes nothing.
-use Prim.Native.Nat.{ℕ, _≤_, _<_, _+_, _^_}
+use Prim.Native.Nat.{ℕ, _≤_, _<_, _+_, _/_, _^_}
 use native.Mathlib.Omega.{arith}
 use mathlib.Core.Path.{_≡_, refl, sym, _∙_}
-use mathlib.Core.Bool.{Bool, true, false, _&&_, and-false}
-use lib.Dec.{eqb, leb, ltb}
-use borrow.Author.Tests.{eq-eqb, ne-eqb, lt-ltb, le-ltb, lt-leb, eqb-true, eqb-false, ltb-true, ltb-false}
+use mathlib.Core.Bool.{Bool, true, false, _&&_, _||_, and-false}
+use lib.Bits.{bitOr, bitXor, or-add-and, xor-add-and, and-le-l, and-le-r, xor-self}
+use lib.Dec.{eqb, ltb}
+use borrow.Author.Tests.{eq-eqb, ne-eqb, lt-ltb, eqb-true, ltb-true}
 use Rattle.symbol.specs.Word.{kind, low, code, isCall, Call, isNoCall, isSound, matches}
 
 -- ---- a conjunction of tests
@@ -20,6 +21,12 @@ pub and-right : (a b : Bool) → (a && b) ≡ true → b ≡ true
 and-right true b e = e
 and-right false b e = let z : false ≡ true = e in cc
 
+-- Two tests are the same where each is true if the other is.
+pub same : (a b : Bool) → (a ≡ true → b ≡ true) → (b ≡ true → a ≡ true) → a ≡ b
+same true b f g = sym (f refl)
+same false true f g = g refl
+same false false f g = refl
+
 -- ---- the range of the calls
 pub call-in : (w : ℕ) → 2 ^ 30 ≤ w → w < 2 ^ 30 + 2 ^ 16 → isCall w ≡ true
 unfolding isCall kind low
@@ -28,14 +35,6 @@ call-in w h k = and-both (eq-eqb (kind w) 1 (omega arith)) (lt-ltb (low w) (2 ^ 
 pub call-below : (w : ℕ) → w < 2 ^ 30 → isCall w ≡ false
 unfolding isCall kind
 call-below w h = rw (ne-eqb (kind w) 1 (omega arith))
-
-pub call-above : (w : ℕ) → 2 ^ 30 + 2 ^ 16 ≤ w → isCall w ≡ false
-unfolding isCall kind low
-call-above w h = go (eqb (kind w) 1) refl
-  where
-    go : (b : Bool) → eqb (kind w) 1 ≡ b → isCall w ≡ false
-    go true e = let one : kind w ≡ 1 = eqb-true _ _ e in rw (e, le-ltb (low w) (2 ^ 16) (omega arith))
-    go false e = rw e
 
 pub call-range : (w : ℕ) → isCall w ≡ true → Call w
 unfolding isCall kind low
@@ -82,50 +81,51 @@ no-match-differ a b d = go (matches a b) refl
     go true e = absurd (d (match-equal a b e))
     go false e = e
 
--- ---- sound words
-pub sound-call : (w : ℕ) → isCall w ≡ true → isSound w ≡ true
+-- ---- what the code tests: a number that is 0 just where both of its parts are, and a part that is 0 just where two words are equal
+or-zero : (x y : ℕ) → bitOr x y ≡ 0 → (x ≡ 0) × (y ≡ 0)
+or-zero x y e = (omega (arith, or-add-and x y, and-le-r x y), omega (arith, or-add-and x y, and-le-l x y))
+
+xor-zero : (x y : ℕ) → bitXor x y ≡ 0 → x ≡ y
+xor-zero x y e = omega (arith, xor-add-and x y, and-le-l x y, and-le-r x y)
+
+xor-equal : (x y : ℕ) → x ≡ y → bitXor x y ≡ 0
+xor-equal x y e = rw e (xor-self y)
+
+-- The upper half of a call is 0x4000, and of no other word.
+call-half : (w : ℕ) → isCall w ≡ true → w / 0x1_0000 ≡ 0x4000
+call-half w e = omega (arith, call-range w e)
+
+half-call : (w : ℕ) → w / 0x1_0000 ≡ 0x4000 → isCall w ≡ true
+half-call w e = call-in w (omega arith) (omega arith)
+
+pub call-test : (w : ℕ) → eqb (w / 0x1_0000) 0x4000 ≡ isCall w
+call-test w = same _ _ (λ e. half-call w (eqb-true _ _ e)) (λ e. eq-eqb _ _ (call-half w e))
+
+no-call-test : (w : ℕ) → eqb w (2 ^ 31) ≡ isNoCall w
+unfolding isNoCall kind low
+no-call-test w = same _ _ there back
+  where
+    there : eqb w (2 ^ 31) ≡ true → isNoCall w ≡ true
+    there e = let one : w ≡ 2 ^ 31 = eqb-true _ _ e in and-both (eq-eqb (kind w) 2 (omega arith)) (eq-eqb (low w) 0 (omega arith))
+
+    back : isNoCall w ≡ true → eqb w (2 ^ 31) ≡ true
+    back e =
+        let k : kind w ≡ 2 = eqb-true _ _ (and-left _ _ e) in
+        let l : low w ≡ 0 = eqb-true _ _ (and-right (eqb (kind w) 2) _ e) in
+        eq-eqb w (2 ^ 31) (omega arith)
+
+pub sound-test : (w : ℕ) (r : Bool) → r ≡ isCall w → (r || eqb w (2 ^ 31)) ≡ isSound w
 unfolding isSound
-sound-call w e = rw e
+sound-test w r e = rw (e, no-call-test w)
 
-pub sound-no-call : isSound (2 ^ 31) ≡ true
-unfolding isSound isCall isNoCall kind low
-sound-no-call = refl
-
-pub unsound : (w : ℕ) → isCall w ≡ false → (w ≡ 2 ^ 31 → ⊥) → isSound w ≡ false
-unfolding isSound isNoCall kind low
-unsound w e d = rw e (go (eqb (kind w) 2) refl)
+pub match-test : (a b : ℕ) → eqb (bitOr (bitXor a b) (bitXor (a / 0x1_0000) 0x4000)) 0 ≡ matches a b
+match-test a b = same _ _ there back
   where
-    go : (b : Bool) → eqb (kind w) 2 ≡ b → (eqb (kind w) 2 && eqb (low w) 0) ≡ false
-    go true k = let two : kind w ≡ 2 = eqb-true _ _ k in rw (k, ne-eqb (low w) 0 (λ z. d (omega arith)))
-    go false k = rw k
+    there : eqb (bitOr (bitXor a b) (bitXor (a / 0x1_0000) 0x4000)) 0 ≡ true → matches a b ≡ true
+    there e =
+        let z = or-zero _ _ (eqb-true _ _ e) in
+        let equal : a ≡ b = xor-zero _ _ (z .0) in
+        rw (← equal) (match-self a (half-call a (xor-zero _ _ (z .1))))
 
--- ---- what the code tests
-pub call-test : (w : ℕ) → 2 ^ 30 ≤ w → ltb w (2 ^ 30 + 2 ^ 16) ≡ isCall w
-call-test w h = go (ltb w (2 ^ 30 + 2 ^ 16)) refl
-  where
-    go : (b : Bool) → ltb w (2 ^ 30 + 2 ^ 16) ≡ b → b ≡ isCall w
-    go true e = sym (call-in w h (ltb-true _ _ e))
-    go false e = sym (call-above w (ltb-false _ _ e))
-
-pub call-test-below : (w : ℕ) → w < 2 ^ 30 → leb (2 ^ 30) w ≡ isCall w
-call-test-below w h = lt-leb (2 ^ 30) w h ∙ sym (call-below w h)
-
-pub sound-test-call : (w : ℕ) (r : Bool) → r ≡ isCall w → r ≡ true → r ≡ isSound w
-sound-test-call w r e t = t ∙ sym (sound-call w (sym e ∙ t))
-
-pub sound-test : (w : ℕ) (r : Bool) → r ≡ isCall w → r ≡ false → eqb w (2 ^ 31) ≡ isSound w
-sound-test w r e f = go (eqb w (2 ^ 31)) refl
-  where
-    go : (b : Bool) → eqb w (2 ^ 31) ≡ b → b ≡ isSound w
-    go true k = rw (eqb-true w (2 ^ 31) k) (sym sound-no-call)
-    go false k = sym (unsound w (sym e ∙ f) (eqb-false _ _ k))
-
-pub match-test : (a b : ℕ) (r : Bool) → a ≡ b → r ≡ isCall a → r ≡ matches a b
-match-test a b r e k = k ∙ go (isCall a) refl
-  where
-    go : (t : Bool) → isCall a ≡ t → t ≡ matches a b
-    go true u = rw (← e) (sym (match-self a u))
-    go false u = sym (no-match-left a b u)
-
-pub match-test-differ : (a b : ℕ) → (a ≡ b → ⊥) → eqb a b ≡ matches a b
-match-test-differ a b d = ne-eqb a b d ∙ sym (no-match-differ a b d)
+    back : matches a b ≡ true → eqb (bitOr (bitXor a b) (bitXor (a / 0x1_0000) 0x4000)) 0 ≡ true
+    back e = rw (xor-equal a b (match-equal a b e), xor-equal _ _ (call-half a (match-call a b e)))

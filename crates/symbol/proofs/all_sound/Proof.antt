@@ -1,17 +1,17 @@
--- `symbol::all_sound` meets its contract: each word before i is sound, and the loop stops at the first that is not.
+-- `symbol::all_sound` meets its contract: at the head of each turn `all` says whether each word before i is sound.
 -- Assumes nothing.
 use Prim.Native.Nat.{_-_}
 use lib.ListN.{length}
-use Rattle.symbol.proofs.Sequence.{Passed, passed-none, passed-more, passed-all, stopped}
+use Rattle.symbol.proofs.Sequence.{Passed, passed-none, passed-more, passed-all}
 use borrow.Author.Needs.{needs}
 use Rattle.symbol.proofs.all_sound.Statement.{statement}
 use Rattle.symbol.proofs.all_sound.Tie as tie
 
 abbrev Inv-loop : tie.InvT-loop
-Inv-loop s i₀ i = Passed s i
+Inv-loop s all₀ i₀ all i = Passed s i all
 
 abbrev μ-loop : tie.MeasureT-loop
-μ-loop s i₀ i = length s - i
+μ-loop s all₀ i₀ all i = length s - i
 
 loop-holds : tie.Need-loop-holds Inv-loop μ-loop
 loop-holds c = search passed-none
@@ -25,9 +25,6 @@ shared-slice-read-is-sound c = search needs
 is-sound-requires : tie.Need-is-sound-requires Inv-loop μ-loop
 is-sound-requires c κs = search needs
 
-returns : tie.Need-returns Inv-loop μ-loop
-returns c = search stopped
-
 add-i : tie.Need-add-i Inv-loop μ-loop
 add-i c = search needs
 
@@ -37,8 +34,8 @@ loop-less c = search needs
 loop-again : tie.Need-loop-again Inv-loop μ-loop
 loop-again c = search passed-more
 
-returns-2 : tie.Need-returns-2 Inv-loop μ-loop
-returns-2 c = search passed-all
+returns : tie.Need-returns Inv-loop μ-loop
+returns c = search passed-all
 
 pub all-sound-spec : {M : Type 1} → statement M
 all-sound-spec =
@@ -50,8 +47,7 @@ all-sound-spec =
     mul-is-sound
     shared-slice-read-is-sound
     is-sound-requires
-    returns
     add-i
     loop-less
     loop-again
-    returns-2)
+    returns)

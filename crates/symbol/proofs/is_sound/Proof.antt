@@ -1,6 +1,6 @@
 -- `symbol::is_sound` meets its contract: the one no-call is the word 2^31.
 -- Assumes nothing.
-use Rattle.symbol.proofs.Word.{sound-test-call, sound-test}
+use Rattle.symbol.proofs.Word.{sound-test}
 use borrow.Author.Needs.{needs}
 use Rattle.symbol.proofs.is_sound.Statement.{statement}
 use Rattle.symbol.proofs.is_sound.Tie as tie
@@ -9,10 +9,7 @@ is-call-requires : tie.Need-is-call-requires
 is-call-requires c κs = search needs
 
 returns : tie.Need-returns
-returns c = search sound-test-call
-
-returns-2 : tie.Need-returns-2
-returns-2 c = search sound-test
+returns c = search sound-test
 
 pub is-sound-spec : {M : Type 1} → statement M
-is-sound-spec = tie.close (tie.spec is-call-requires returns returns-2)
+is-sound-spec = tie.close (tie.spec is-call-requires returns)
