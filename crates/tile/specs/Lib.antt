@@ -1,1 +1,2 @@
+pub mod Block
 pub mod Listed

@@ -2,10 +2,12 @@
 ghost use mathlib.Core.Path.{_≡_};
 ghost use mathlib.Core.List.{[], _∷_, _++_};
 ghost use Prim.Native.Nat.{ℕ, _+_, _*_, _≤_, _<_, max};
+ghost use lib.Dec.{leb};
 ghost use lib.ListN.{length, take, drop};
 ghost use Rattle.buffer.specs.Buffer.{onto};
 ghost use Rattle.tiling.specs.Run.{run, mark};
 ghost use Rattle.tiling.specs.Listing.{tileWords, score, shift};
+ghost use Rattle.tile.specs.Block.{block, wholeBlocks};
 ghost use Rattle.tile.specs.Listed.{listed};
 
 // A position on the pattern, and one on the text. They count from separate zeros, so they are of two types.
@@ -13,19 +15,51 @@ pub struct PatternAt(pub usize);
 
 pub struct TextAt(pub usize);
 
+// Words are looked at in blocks where a stretch may be long. A block is tested as a whole, and nothing in it branches on a
+// word, so that the compiler takes several words at once.
+const BLOCK: usize = 8;
+
+// Whether the first words of two parts match one by one, as many as a block has.
+fn block_matches(pattern: &[u32], text: &[u32]) -> bool
+    requires { ⌜ (block ≤ length (now pattern)) × (block ≤ length (now text)) ⌝ }
+    ensures { λ r. ⌜ r ≡ leb block (run (now (pattern .entry)) (now (text .entry))) ⌝ }
+{
+    let mut all = true;
+    let mut i = 0;
+    while i < BLOCK {
+        all = all & symbol::words_match(pattern[i], text[i]);
+        i += 1;
+    }
+    all
+}
+
+// How many words match one by one from the start of two parts, in whole blocks.
+fn block_run(pattern: &[u32], text: &[u32]) -> usize
+    ensures { λ r. ⌜ r ≡ wholeBlocks (run (now (pattern .entry)) (now (text .entry))) ⌝ }
+{
+    let mut n = 0;
+    while BLOCK <= pattern.len() - n
+        && BLOCK <= text.len() - n
+        && block_matches(&pattern[n..], &text[n..])
+    {
+        n += BLOCK;
+    }
+    n
+}
+
 // How many words match one by one from the start of two parts.
 fn run_length(pattern: &[u32], text: &[u32]) -> usize
     ensures { λ r. ⌜ r ≡ run (now (pattern .entry)) (now (text .entry)) ⌝ }
 {
-    let mut n = 0;
+    let mut n = block_run(pattern, text);
     while n < pattern.len() && n < text.len() && symbol::words_match(pattern[n], text[n]) {
         n += 1;
     }
     n
 }
 
-// The run where it is longer than best, else best. Most candidates are dismissed by the words at offset best alone: where
-// these do not match, the run is no longer than best.
+// The run where it is longer than best, else best. Most candidates are dismissed by the words at offset best, or by the
+// first: where either do not match, the run is no longer than best.
 pub fn longer_run(pattern: &[u32], text: &[u32], best: usize) -> usize
     ensures { λ r. ⌜ r ≡ max best (run (now (pattern .entry)) (now (text .entry))) ⌝ }
 {
@@ -36,6 +70,9 @@ pub fn longer_run(pattern: &[u32], text: &[u32], best: usize) -> usize
         return best;
     }
     if !symbol::words_match(pattern[best], text[best]) {
+        return best;
+    }
+    if !symbol::words_match(pattern[0], text[0]) {
         return best;
     }
     let n = run_length(pattern, text);

@@ -8,7 +8,7 @@ use native.Mathlib.Omega.{arith}
 use mathlib.Core.Path.{_≡_, refl, sym, _∙_, ap}
 use mathlib.Core.Bool.{Bool, true, false}
 use mathlib.Core.List.{List, [], _∷_}
-use lib.ListN.{length, getD}
+use lib.ListN.{length, drop, getD}
 use Rattle.symbol.specs.Word.{matches}
 use Rattle.symbol.proofs.Word.{call-below, no-match-left, no-match-right, match-swap}
 use Rattle.tiling.specs.Run.{run, mark}
@@ -86,6 +86,18 @@ run-least ps ts n h = go (decLe n (run ps ts))
     go : Dec (n ≤ run ps ts) → n ≤ run ps ts
     go (yes k) = k
     go (no k) = let f : false ≡ true = sym (run-stops ps ts) ∙ h (run ps ts) (omega (arith, k)) in let z : _≡_ {A = ℕ} 0 1 = cc in omega arith
+
+-- The words of a run after its first n are the run of what follows these.
+pub run-after : (n : ℕ) (ps ts : List ℕ) → n ≤ run ps ts → run ps ts ≡ n + run (drop n ps) (drop n ts)
+unfolding run
+run-after zero ps ts h = omega arith
+run-after (suc n) [] ts h = absurd (not-suc-le-zero h)
+run-after (suc n) (p ∷ ps) [] h = absurd (not-suc-le-zero h)
+run-after (suc n) (p ∷ ps) (t ∷ ts) h = go (run-after n ps ts) (matches p t) refl
+  where
+    go : (n ≤ run ps ts → run ps ts ≡ n + run (drop n ps) (drop n ts)) → (b : Bool) → matches p t ≡ b → run (p ∷ ps) (t ∷ ts) ≡ suc n + run (drop n ps) (drop n ts)
+    go f true e = let k = run-cons p t ps ts e in omega (arith, k, f (omega (arith, k)))
+    go f false e = absurd (not-suc-le-zero (rw (run-none p t ps ts e) at h))
 
 -- ---- marking
 pub length-mark : (i n : ℕ) (xs : List ℕ) → length (mark i n xs) ≡ length xs

@@ -1,21 +1,25 @@
--- `tile::run_length` meets its contract: the words before n match, and the loop ends with a list or at a pair that does not.
+-- `tile::run_length` meets its contract: whole blocks match, then n words, and the loop ends with a list or at a pair that does not match.
 -- Assumes nothing.
-use Prim.Native.Nat.{_-_}
+use Prim.Native.Nat.{_-_, _≤_}
 use lib.ListN.{length}
 use borrow.Author.Tests.{ltb-true, ltb-false}
-use Rattle.tile.proofs.Measure.{Measured, measured-none, measured-more, measured-pattern, measured-text, measured-stop}
+use Rattle.tiling.specs.Run.{run}
+use Rattle.tile.proofs.Measure.{rest-none, rest-more, rest-pattern, rest-text, rest-stop}
 use borrow.Author.Needs.{needs}
 use Rattle.tile.proofs.run_length.Statement.{statement}
 use Rattle.tile.proofs.run_length.Tie as tie
 
 abbrev Inv-loop : tie.InvT-loop
-Inv-loop pattern text n₀ n = Measured pattern text n
+Inv-loop pattern text n₀ n = n ≤ run pattern text
 
 abbrev μ-loop : tie.MeasureT-loop
 μ-loop pattern text n₀ n = length pattern - n
 
+block-run-requires : tie.Need-block-run-requires Inv-loop μ-loop
+block-run-requires c κs = search needs
+
 loop-holds : tie.Need-loop-holds Inv-loop μ-loop
-loop-holds c = search measured-none
+loop-holds c = search rest-none
 
 mul-words-match : tie.Need-mul-words-match Inv-loop μ-loop
 mul-words-match c = search needs
@@ -39,16 +43,16 @@ loop-less : tie.Need-loop-less Inv-loop μ-loop
 loop-less c = search needs
 
 loop-again : tie.Need-loop-again Inv-loop μ-loop
-loop-again c = search (measured-more, ltb-true)
+loop-again c = search rest-more
 
 returns : tie.Need-returns Inv-loop μ-loop
-returns c = search measured-stop
+returns c = search rest-stop
 
 returns-2 : tie.Need-returns-2 Inv-loop μ-loop
-returns-2 c = search (measured-text, ltb-false)
+returns-2 c = search (rest-text, ltb-false)
 
 returns-3 : tie.Need-returns-3 Inv-loop μ-loop
-returns-3 c = search measured-pattern
+returns-3 c = search rest-pattern
 
 pub run-length-spec : {M : Type 1} → statement M
 run-length-spec =
@@ -56,6 +60,7 @@ run-length-spec =
     (tie.spec
     Inv-loop
     μ-loop
+    block-run-requires
     loop-holds
     mul-words-match
     shared-slice-read-words-match

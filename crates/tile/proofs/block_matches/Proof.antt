@@ -1,0 +1,61 @@
+-- `tile::block_matches` meets its contract: at the head of each turn `all` says whether the first i words match.
+-- Assumes nothing.
+use Prim.Native.Nat.{_-_}
+use Rattle.tile.specs.Block.{block}
+use Rattle.tile.proofs.Measure.{Matching, matching-none, matching-more, matching-all}
+use borrow.Author.Needs.{needs}
+use Rattle.tile.proofs.block_matches.Statement.{statement}
+use Rattle.tile.proofs.block_matches.Tie as tie
+
+abbrev Inv-loop : tie.InvT-loop
+Inv-loop pattern text all₀ i₀ all i = Matching pattern text i all
+
+abbrev μ-loop : tie.MeasureT-loop
+μ-loop pattern text all₀ i₀ all i = block - i
+
+loop-holds : tie.Need-loop-holds Inv-loop μ-loop
+loop-holds c = search matching-none
+
+mul-words-match : tie.Need-mul-words-match Inv-loop μ-loop
+mul-words-match c = search needs
+
+shared-slice-read-words-match : tie.Need-shared-slice-read-words-match Inv-loop μ-loop
+shared-slice-read-words-match c = search needs
+
+mul-words-match-2 : tie.Need-mul-words-match-2 Inv-loop μ-loop
+mul-words-match-2 c = search needs
+
+shared-slice-read-words-match-2 : tie.Need-shared-slice-read-words-match-2 Inv-loop μ-loop
+shared-slice-read-words-match-2 c = search needs
+
+words-match-requires : tie.Need-words-match-requires Inv-loop μ-loop
+words-match-requires c κs = search needs
+
+add-i : tie.Need-add-i Inv-loop μ-loop
+add-i c = search needs
+
+loop-less : tie.Need-loop-less Inv-loop μ-loop
+loop-less c = search needs
+
+loop-again : tie.Need-loop-again Inv-loop μ-loop
+loop-again c = search matching-more
+
+returns : tie.Need-returns Inv-loop μ-loop
+returns c = search matching-all
+
+pub block-matches-spec : {M : Type 1} → statement M
+block-matches-spec =
+    tie.close
+    (tie.spec
+    Inv-loop
+    μ-loop
+    loop-holds
+    mul-words-match
+    shared-slice-read-words-match
+    mul-words-match-2
+    shared-slice-read-words-match-2
+    words-match-requires
+    add-i
+    loop-less
+    loop-again
+    returns)
