@@ -1,4 +1,6 @@
 pub mod Marking
+pub mod Leading
+pub mod Blocks
 pub mod Measure
 pub mod Tail
 pub mod Score

@@ -7,6 +7,7 @@ ghost use lib.ListN.{length, take, drop};
 ghost use Rattle.buffer.specs.Buffer.{onto};
 ghost use Rattle.tiling.specs.Run.{run, mark};
 ghost use Rattle.tiling.specs.Listing.{tileWords, score, shift};
+ghost use Rattle.tile.specs.Leading.{before};
 ghost use Rattle.tile.specs.Block.{block, wholeBlocks};
 ghost use Rattle.tile.specs.Listed.{listed};
 
@@ -34,7 +35,7 @@ fn block_matches(pattern: &[u32], text: &[u32]) -> bool
 }
 
 // How many words match one by one from the start of two parts, in whole blocks.
-fn block_run(pattern: &[u32], text: &[u32]) -> usize
+fn blocks_run(pattern: &[u32], text: &[u32]) -> usize
     ensures { λ r. ⌜ r ≡ wholeBlocks (run (now (pattern .entry)) (now (text .entry))) ⌝ }
 {
     let mut n = 0;
@@ -51,7 +52,7 @@ fn block_run(pattern: &[u32], text: &[u32]) -> usize
 fn run_length(pattern: &[u32], text: &[u32]) -> usize
     ensures { λ r. ⌜ r ≡ run (now (pattern .entry)) (now (text .entry)) ⌝ }
 {
-    let mut n = block_run(pattern, text);
+    let mut n = blocks_run(pattern, text);
     while n < pattern.len() && n < text.len() && symbol::words_match(pattern[n], text[n]) {
         n += 1;
     }
@@ -78,6 +79,42 @@ pub fn longer_run(pattern: &[u32], text: &[u32], best: usize) -> usize
     let n = run_length(pattern, text);
     if n < best {
         return best;
+    }
+    n
+}
+
+// Whether none of the first words is w, as many as a block has.
+fn block_lacks(words: &[u32], w: u32) -> bool
+    requires { ⌜ block ≤ length (now words) ⌝ }
+    ensures { λ r. ⌜ r ≡ leb block (before w (now (words .entry))) ⌝ }
+{
+    let mut all = true;
+    let mut i = 0;
+    while i < BLOCK {
+        all = all & (words[i] != w);
+        i += 1;
+    }
+    all
+}
+
+// How many words stand before the first that is w, in whole blocks.
+fn blocks_before(words: &[u32], w: u32) -> usize
+    ensures { λ r. ⌜ r ≡ wholeBlocks (before w (now (words .entry))) ⌝ }
+{
+    let mut n = 0;
+    while BLOCK <= words.len() - n && block_lacks(&words[n..], w) {
+        n += BLOCK;
+    }
+    n
+}
+
+// How many words stand before the first that is w; all of them where none is.
+pub fn words_before(words: &[u32], w: u32) -> usize
+    ensures { λ r. ⌜ r ≡ before w (now (words .entry)) ⌝ }
+{
+    let mut n = blocks_before(words, w);
+    while n < words.len() && words[n] != w {
+        n += 1;
     }
     n
 }

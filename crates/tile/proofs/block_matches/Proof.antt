@@ -1,20 +1,22 @@
 -- `tile::block_matches` meets its contract: at the head of each turn `all` says whether the first i words match.
 -- Assumes nothing.
 use Prim.Native.Nat.{_-_}
+use Rattle.tiling.specs.Run.{run}
 use Rattle.tile.specs.Block.{block}
-use Rattle.tile.proofs.Measure.{Matching, matching-none, matching-more, matching-all}
+use Rattle.tile.proofs.Blocks.{Tested, tested-none, tested-all}
+use Rattle.tile.proofs.Measure.{run-tested}
 use borrow.Author.Needs.{needs}
 use Rattle.tile.proofs.block_matches.Statement.{statement}
 use Rattle.tile.proofs.block_matches.Tie as tie
 
 abbrev Inv-loop : tie.InvT-loop
-Inv-loop pattern text all₀ i₀ all i = Matching pattern text i all
+Inv-loop pattern text all₀ i₀ all i = Tested (run pattern text) i all
 
 abbrev μ-loop : tie.MeasureT-loop
 μ-loop pattern text all₀ i₀ all i = block - i
 
 loop-holds : tie.Need-loop-holds Inv-loop μ-loop
-loop-holds c = search matching-none
+loop-holds c = search tested-none
 
 mul-words-match : tie.Need-mul-words-match Inv-loop μ-loop
 mul-words-match c = search needs
@@ -38,10 +40,10 @@ loop-less : tie.Need-loop-less Inv-loop μ-loop
 loop-less c = search needs
 
 loop-again : tie.Need-loop-again Inv-loop μ-loop
-loop-again c = search matching-more
+loop-again c = search run-tested
 
 returns : tie.Need-returns Inv-loop μ-loop
-returns c = search matching-all
+returns c = search tested-all
 
 pub block-matches-spec : {M : Type 1} → statement M
 block-matches-spec =

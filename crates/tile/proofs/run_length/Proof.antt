@@ -1,10 +1,11 @@
--- `tile::run_length` meets its contract: whole blocks match, then n words, and the loop ends with a list or at a pair that does not match.
+-- `tile::run_length` meets its contract: n words match, first in whole blocks, and the loop ends with a list or at a pair that does not match.
 -- Assumes nothing.
 use Prim.Native.Nat.{_-_, _≤_}
 use lib.ListN.{length}
 use borrow.Author.Tests.{ltb-true, ltb-false}
 use Rattle.tiling.specs.Run.{run}
-use Rattle.tile.proofs.Measure.{rest-none, rest-more, rest-pattern, rest-text, rest-stop}
+use Rattle.tile.proofs.Blocks.{blocks-within}
+use Rattle.tile.proofs.Measure.{run-more, run-pattern, run-text, run-stop}
 use borrow.Author.Needs.{needs}
 use Rattle.tile.proofs.run_length.Statement.{statement}
 use Rattle.tile.proofs.run_length.Tie as tie
@@ -15,11 +16,11 @@ Inv-loop pattern text n₀ n = n ≤ run pattern text
 abbrev μ-loop : tie.MeasureT-loop
 μ-loop pattern text n₀ n = length pattern - n
 
-block-run-requires : tie.Need-block-run-requires Inv-loop μ-loop
-block-run-requires c κs = search needs
+blocks-run-requires : tie.Need-blocks-run-requires Inv-loop μ-loop
+blocks-run-requires c κs = search needs
 
 loop-holds : tie.Need-loop-holds Inv-loop μ-loop
-loop-holds c = search rest-none
+loop-holds c = search blocks-within
 
 mul-words-match : tie.Need-mul-words-match Inv-loop μ-loop
 mul-words-match c = search needs
@@ -43,16 +44,16 @@ loop-less : tie.Need-loop-less Inv-loop μ-loop
 loop-less c = search needs
 
 loop-again : tie.Need-loop-again Inv-loop μ-loop
-loop-again c = search rest-more
+loop-again c = search (run-more, ltb-true)
 
 returns : tie.Need-returns Inv-loop μ-loop
-returns c = search rest-stop
+returns c = search run-stop
 
 returns-2 : tie.Need-returns-2 Inv-loop μ-loop
-returns-2 c = search (rest-text, ltb-false)
+returns-2 c = search (run-text, ltb-false)
 
 returns-3 : tie.Need-returns-3 Inv-loop μ-loop
-returns-3 c = search rest-pattern
+returns-3 c = search run-pattern
 
 pub run-length-spec : {M : Type 1} → statement M
 run-length-spec =
@@ -60,7 +61,7 @@ run-length-spec =
     (tie.spec
     Inv-loop
     μ-loop
-    block-run-requires
+    blocks-run-requires
     loop-holds
     mul-words-match
     shared-slice-read-words-match

@@ -1,22 +1,25 @@
--- `tile::block_run` meets its contract: at the head of each turn n words match, in whole blocks, and the loop ends where a list has too few
+-- `tile::blocks_run` meets its contract: at the head of each turn n words match, in whole blocks, and the loop ends where a list has too few
 -- words for another block, or at a block that does not match.
 -- Assumes nothing.
-use Prim.Native.Nat.{_-_}
+use Prim.Native.Nat.{_-_, _≤_}
+use native.Mathlib.Omega.{arith}
 use lib.ListN.{length}
-use borrow.Author.Tests.{leb-true, leb-false}
-use Rattle.tile.proofs.Measure.{Blocks, block-room, blocks-none, blocks-more, blocks-pattern, blocks-text, blocks-stop}
+use borrow.Author.Tests.{leb-true}
+use Rattle.tiling.specs.Run.{run}
+use Rattle.tile.proofs.Blocks.{Blocks, block-room, blocks-none, blocks-more, blocks-stop}
+use Rattle.tile.proofs.Measure.{run-parts, run-short-pattern, run-short-text}
 use borrow.Author.Needs.{needs}
-use Rattle.tile.proofs.block_run.Statement.{statement}
-use Rattle.tile.proofs.block_run.Tie as tie
+use Rattle.tile.proofs.blocks_run.Statement.{statement}
+use Rattle.tile.proofs.blocks_run.Tie as tie
 
 abbrev Inv-loop : tie.InvT-loop
-Inv-loop pattern text n₀ n = Blocks pattern text n
+Inv-loop pattern text n₀ n = Blocks (run pattern text) n × (n ≤ length pattern) × (n ≤ length text)
 
 abbrev μ-loop : tie.MeasureT-loop
 μ-loop pattern text n₀ n = length pattern - n
 
 loop-holds : tie.Need-loop-holds Inv-loop μ-loop
-loop-holds c = search blocks-none
+loop-holds c = (search blocks-none, search needs, search needs)
 
 sub-loop : tie.Need-sub-loop Inv-loop μ-loop
 sub-loop c = search needs
@@ -58,19 +61,19 @@ loop-less : tie.Need-loop-less Inv-loop μ-loop
 loop-less c = search needs
 
 loop-again : tie.Need-loop-again Inv-loop μ-loop
-loop-again c = search blocks-more
+loop-again c = (search (blocks-more, run-parts), search needs, omega (arith, leb-true))
 
 returns : tie.Need-returns Inv-loop μ-loop
-returns c = search blocks-stop
+returns c = search (blocks-stop, run-parts)
 
 returns-2 : tie.Need-returns-2 Inv-loop μ-loop
-returns-2 c = search (blocks-text, leb-false)
+returns-2 c = search run-short-text
 
 returns-3 : tie.Need-returns-3 Inv-loop μ-loop
-returns-3 c = search blocks-pattern
+returns-3 c = search run-short-pattern
 
-pub block-run-spec : {M : Type 1} → statement M
-block-run-spec =
+pub blocks-run-spec : {M : Type 1} → statement M
+blocks-run-spec =
     tie.close
     (tie.spec
     Inv-loop
