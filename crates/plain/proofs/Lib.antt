@@ -1,3 +1,4 @@
+pub mod Next
 pub mod Scan
 pub mod View
 pub mod Fill

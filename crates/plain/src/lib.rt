@@ -21,11 +21,8 @@ fn next_word(text: &[u32], from: TextAt, w: u32) -> TextAt
     requires { ⌜ from .0 ≤ length (now text) ⌝ }
     ensures { λ r. ⌜ First (λ i. getD (now (text .entry)) i 0 ≡ w) (from .0) (length (now (text .entry))) (r .0) ⌝ }
 {
-    let mut i = from.0;
-    while i < text.len() && text[i] != w {
-        i += 1;
-    }
-    TextAt(i)
+    let at = from.0;
+    TextAt(at + tile::words_before(&text[at..], w))
 }
 
 // The longest run of the row that pattern starts, where it is longer than floor, and the first position on the text that

@@ -7,7 +7,7 @@ use native.Mathlib.Omega.{arith}
 use mathlib.Core.Path.{_≡_, refl, sym, _∙_}
 use mathlib.Core.Bool.{Bool, true, false, not, _&&_}
 use mathlib.Core.List.{List}
-use borrow.Author.Tests.{not-true, leb-false}
+use borrow.Author.Tests.{eqb-true, eqb-false, not-true, not-false, leb-false}
 use lib.Dec.{eqb, leb}
 use lib.ListN.{length, take, drop, getD}
 use Rattle.symbol.specs.Word.{matches}
@@ -82,6 +82,13 @@ module _ (w : ℕ) (xs : List ℕ) where
 
     pub before-parts : n ≤ before w xs → before w xs ≡ n + before w (take (length xs - n) (drop n xs))
     before-parts h = rw (tail-is n xs) (leading-after _ n xs h)
+
+  -- None of them is w, and the next one is.
+  pub before-passes : (i : ℕ) → i < before w xs → getD xs i 0 ≡ w → ⊥
+  before-passes i h = eqb-false _ _ (not-true _ (lacking .holds i h))
+
+  pub before-found : before w xs < length xs → getD xs (before w xs) 0 ≡ w
+  before-found h = eqb-true _ _ (not-false _ (lacking .stops h))
 
 -- ---- the returns of longer_run
 pub longer-pattern : (ps ts : List ℕ) (best : ℕ) → length ps ≤ best → best ≡ max best (run ps ts)

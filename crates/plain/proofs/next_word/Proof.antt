@@ -1,55 +1,44 @@
--- `plain::next_word` meets its contract: at the head of each turn no position before i holds the word.
+-- `plain::next_word` meets its contract: the words before w in what is left of the text are passed.
 -- Assumes nothing.
-use Prim.Native.Nat.{_-_}
-use borrow.Author.Tests.{eqb-true, eqb-false, not-true, not-false}
-use lib.ListN.{length, getD}
-use mathlib.Core.Path.{_≡_}
-use Rattle.sweep.proofs.First.{Passing, passing-none, passing-more, first-none, first-at}
+use native.Mathlib.Omega.{arith}
+use Rattle.plain.proofs.Next.{next-within, next-first}
 use borrow.Author.Needs.{needs}
 use Rattle.plain.proofs.next_word.Statement.{statement}
 use Rattle.plain.proofs.next_word.Tie as tie
 
-abbrev Inv-loop : tie.InvT-loop
-Inv-loop text w i₀ i = Passing (λ k. getD text k 0 ≡ w) i₀ (length text) i
+mul-words-before : tie.Need-mul-words-before
+mul-words-before c = search needs
 
-abbrev μ-loop : tie.MeasureT-loop
-μ-loop text w i₀ i = length text - i
+sub-words-before : tie.Need-sub-words-before
+sub-words-before c = search needs
 
-loop-holds : tie.Need-loop-holds Inv-loop μ-loop
-loop-holds c = search passing-none
+part-words-before-start : tie.Need-part-words-before-start
+part-words-before-start c = search needs
 
-mul-if1 : tie.Need-mul-if1 Inv-loop μ-loop
-mul-if1 c = search needs
+part-words-before-end : tie.Need-part-words-before-end
+part-words-before-end c = search needs
 
-shared-slice-read-if1 : tie.Need-shared-slice-read-if1 Inv-loop μ-loop
-shared-slice-read-if1 c = search needs
+words-before-requires : tie.Need-words-before-requires
+words-before-requires c κs = search needs
 
-add-i : tie.Need-add-i Inv-loop μ-loop
-add-i c = search needs
+add-t11 : tie.Need-add-t11
+add-t11 c =
+    let s = c .before .before .before in
+    record { fits = omega (arith, next-within (s .args .w) (s .args .from .0) (c .words-before .result) (s .args .text .now) (s .pre) (c .words-before .ensures)) }
 
-loop-less : tie.Need-loop-less Inv-loop μ-loop
-loop-less c = search needs
-
-loop-again : tie.Need-loop-again Inv-loop μ-loop
-loop-again c = search (passing-more, eqb-false, not-true)
-
-returns : tie.Need-returns Inv-loop μ-loop
-returns c = search (first-at, eqb-true, not-false)
-
-returns-2 : tie.Need-returns-2 Inv-loop μ-loop
-returns-2 c = search first-none
+returns : tie.Need-returns
+returns c =
+    let s = c .before .before .before in
+    next-first (s .args .w) (s .args .from .0) (c .words-before .result) (s .args .text .now) (s .pre) (c .words-before .ensures)
 
 pub next-word-spec : {M : Type 1} → statement M
 next-word-spec =
     tie.close
     (tie.spec
-    Inv-loop
-    μ-loop
-    loop-holds
-    mul-if1
-    shared-slice-read-if1
-    add-i
-    loop-less
-    loop-again
-    returns
-    returns-2)
+    mul-words-before
+    sub-words-before
+    part-words-before-start
+    part-words-before-end
+    words-before-requires
+    add-t11
+    returns)
