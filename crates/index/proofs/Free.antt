@@ -9,10 +9,11 @@ use mathlib.Core.Bool.{Bool, true, false}
 use mathlib.Core.List.{List, _∷_}
 use lib.ListN.{drop, getD, length-take, length-drop}
 use lib.Seq.{drop-cons, getD-take, getD-drop}
-use Rattle.symbol.specs.Word.{isCall}
+use Rattle.symbol.specs.Word.{isCall, matches}
 use Rattle.symbol.proofs.Word.{match-call, match-self, match-swap, no-match-left}
 use Rattle.tiling.specs.Run.{run}
 use Rattle.tiling.specs.Tiling.{State, runAt}
+use Rattle.tiling.proofs.Leading.{leading-cons, leading-none}
 use Rattle.tiling.proofs.Run.{run-match, run-least, run-within}
 use Rattle.sweep.specs.Workspace.{Space, state}
 use Rattle.sweep.specs.declared.Job.{Job}
@@ -30,12 +31,10 @@ free-run j ws p u = run-free (drop p (state j ws .pattern)) (drop u (state j ws 
 
 -- ---- word by word
 call-more : (x : ℕ) (xs : List ℕ) → isCall x ≡ true → run (x ∷ xs) (x ∷ xs) ≡ suc (run xs xs)
-unfolding run
-call-more x xs e = rw (run, match-self x e) refl
+call-more x xs e = leading-cons matches x x xs xs (match-self x e)
 
 call-none : (x : ℕ) (xs : List ℕ) → isCall x ≡ false → run (x ∷ xs) (x ∷ xs) ≡ 0
-unfolding run
-call-none x xs e = rw (run, no-match-left x x e) refl
+call-none x xs e = leading-none matches x x xs xs (no-match-left x x e)
 
 -- None stand past the end, so a free window begins within the text.
 free-within : (j : Job) (ws : List ℕ) (t : ℕ) → freeAt j ws t ≤ j .m - t

@@ -1,25 +1,46 @@
--- The next occurrence of a word in the text: the words before it in what is left of the text are passed over.
+-- The next position of the text that has two words so far apart: those before it in what is left of the text are passed over.
 -- Assumes nothing.
-use Prim.Native.Nat.{ℕ, _+_, _-_, _≤_}
+use Prim.Native.Nat.{ℕ, _+_, _-_, _≤_, _<_, min}
 use native.Mathlib.Omega.{arith}
-use mathlib.Core.Path.{_≡_}
+use mathlib.Core.Path.{_≡_, sym, _∙_, ap}
 use mathlib.Core.List.{List}
 use lib.ListN.{length, take, drop, getD, length-drop}
 use lib.Seq.{getD-drop}
-use Rattle.tile.specs.Leading.{before}
-use Rattle.tile.proofs.Measure.{before-within}
+use Rattle.tiling.proofs.Leading.{leading-within}
+use Rattle.tile.specs.Before.{otherThan, before}
+use Rattle.tile.proofs.Before.{before-passes, before-found}
 use Rattle.tile.proofs.Tail.{tail-is}
 use Rattle.sweep.specs.First.{First}
-use Rattle.sweep.proofs.First.{first-word}
+use Rattle.plain.specs.Pair.{SideBySide}
 
-module _ (w at n : ℕ) (ts : List ℕ) (h : at ≤ length ts) (e : n ≡ before w (take (length ts - at) (drop at ts))) where
-  tail : n ≡ before w (drop at ts)
-  tail = rw (tail-is at ts) at e
+module _ (ts : List ℕ) (from offset a b n : ℕ) (h : from + offset ≤ length ts) (e : n ≡ before a b (take (length ts - from) (drop from ts)) (take (length ts - (from + offset)) (drop (from + offset) ts))) where
+  passed : n ≡ before a b (drop from ts) (drop (from + offset) ts)
+  passed = rw (tail-is from ts, tail-is (from + offset) ts) at e
 
-  pub next-within : at + n ≤ length ts
-  next-within = omega (arith, tail, before-within w (drop at ts), length-drop at ts)
+  -- As many positions as have a word so far on.
+  ends : min (length (drop from ts)) (length (drop (from + offset) ts)) ≡ length ts - (from + offset)
+  ends = omega (arith, length-drop from ts, length-drop (from + offset) ts)
 
-  pub next-first : First (λ i. getD ts i 0 ≡ w) at (length ts) (at + n)
-  next-first =
-      let end : at + length (drop at ts) ≡ length ts = omega (arith, length-drop at ts) in
-      rw (tail, ← end) (first-word (λ i. getD ts i 0) w at (drop at ts) (λ i l. getD-drop at ts i 0))
+  pub next-within : from + n + offset ≤ length ts
+  next-within = omega (arith, passed, ends, leading-within (otherThan a b) (drop from ts) (drop (from + offset) ts))
+
+  here : (i : ℕ) → getD (drop from ts) i 0 ≡ getD ts (from + i) 0
+  here i = getD-drop from ts i 0
+
+  beyond : (i : ℕ) → getD (drop (from + offset) ts) i 0 ≡ getD ts (from + i + offset) 0
+  beyond i = let same : from + offset + i ≡ from + i + offset = omega arith in getD-drop (from + offset) ts i 0 ∙ ap (λ (k : ℕ). getD ts k 0) same
+
+  pub next-first : First (SideBySide ts offset a b) from (length ts - offset) (from + n)
+  next-first = record { least = omega arith; within = omega (arith, next-within); none = none; stops = stops }
+    where
+      none : (i : ℕ) → from ≤ i → i < from + n → SideBySide ts offset a b i → ⊥
+      none i l m s =
+          let at : from + (i - from) ≡ i = omega arith in
+          before-passes a b (drop from ts) (drop (from + offset) ts) (i - from) (omega (arith, passed))
+          (here (i - from) ∙ rw at (s .here))
+          (beyond (i - from) ∙ rw at (s .beyond))
+
+      stops : from + n < length ts - offset → SideBySide ts offset a b (from + n)
+      stops l =
+          let f = before-found a b (drop from ts) (drop (from + offset) ts) (omega (arith, passed, ends)) in
+          record { here = sym (here n) ∙ rw passed (f .0); beyond = sym (beyond n) ∙ rw passed (f .1) }

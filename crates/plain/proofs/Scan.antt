@@ -1,9 +1,9 @@
--- Searching a row. What was found so far is the longest of the runs before t, or the floor. A longer run at u has the pattern's word at
--- that offset, so the positions between two occurrences of it can be passed over; and where too few words are left, no run is longer.
+-- Searching a row. What was found so far is the longest of the runs before t, or the floor. A longer run at u has the pattern's first word
+-- and the word at that offset, so the positions that lack either can be passed over; and where too few words are left, no run is longer.
 -- Assumes nothing.
 use Prim.Native.Nat.{ℕ, _+_, _-_, _≤_, _<_, max}
 use native.Mathlib.Nat.{not-suc-le-zero}
-use native.Mathlib.Decide.{decLt, ℕ-discrete}
+use native.Mathlib.Decide.{decLe, decLt, ℕ-discrete}
 use native.Mathlib.Omega.{arith}
 use mathlib.Core.Path.{_≡_, sym, _∙_, subst}
 use mathlib.Core.Bool.{true}
@@ -12,15 +12,15 @@ use borrow.Author.Tests.{ltb-true}
 use lib.Dec.{ltb}
 use lib.ListN.{length, take, drop, getD, length-drop}
 use lib.Seq.{getD-drop}
-use Rattle.symbol.proofs.Word.{no-match-differ}
+use Rattle.symbol.proofs.Word.{match-equal}
 use Rattle.tiling.specs.Run.{run}
-use Rattle.tiling.proofs.Run.{run-within}
+use Rattle.tiling.proofs.Run.{run-within, run-match}
 use Rattle.tile.specs.declared.TextAt.{TextAt}
-use Rattle.tile.proofs.Measure.{run-most}
 use Rattle.tile.proofs.Tail.{tail-is}
 use Rattle.sweep.specs.Row.{Row, better}
 use Rattle.sweep.specs.First.{First}
 use Rattle.sweep.specs.declared.Found.{Found}
+use Rattle.plain.specs.Pair.{SideBySide}
 use Rattle.sweep.proofs.Row.{better-new, better-old}
 
 -- ---- a row
@@ -51,49 +51,54 @@ seen-none ps ts floor a h p t =
       first = λ l. absurd (omega arith);
     }
 
-module _ (ps ts : List ℕ) (floor t : ℕ) (f : Found) (r len : ℕ) (a : TextAt) (s : Seen ps ts floor t f) (h : f .len < length ps) (k : t + f .len < length ts) (c : First (λ i. getD ts i 0 ≡ getD ps (f .len) 0) (t + f .len) (length ts) r) (at : a .0 ≡ r - f .len) (e : len ≡ max (f .len) (run ps (take (length ts - (r - f .len)) (drop (r - f .len) ts)))) where
-  -- A position that was passed over lacks the word at that offset.
-  passed-over : (u : ℕ) → t ≤ u → u < r - f .len → run ps (drop u ts) ≤ f .len
-  passed-over u l m =
-      run-most ps (drop u ts) (f .len)
-      (no-match-differ (getD ps (f .len) 0) (getD (drop u ts) (f .len) 0)
-      (λ q. c .none (u + f .len) (omega arith) (omega arith) (sym (getD-drop u ts (f .len) 0) ∙ sym q)))
-
-  before : (u : ℕ) → u < r - f .len → run ps (drop u ts) ≤ f .len
-  before u l = go (decLt u t)
+module _ (ps ts : List ℕ) (floor t : ℕ) (f : Found) (r len : ℕ) (a : TextAt) (s : Seen ps ts floor t f) (h : f .len < length ps) (k : t + f .len < length ts) (c : First (SideBySide ts (f .len) (getD ps 0 0) (getD ps (f .len) 0)) t (length ts - f .len) r) (at : a .0 ≡ r) (e : len ≡ max (f .len) (run ps (take (length ts - r) (drop r ts)))) where
+  -- A run longer than what was found has both words.
+  both : (u : ℕ) → f .len < run ps (drop u ts) → SideBySide ts (f .len) (getD ps 0 0) (getD ps (f .len) 0) u
+  both u l =
+      record {
+        here = let first : u + 0 ≡ u = omega arith in rw first at (word 0 (omega arith));
+        beyond = word (f .len) l;
+      }
     where
-      go : Dec (u < t) → run ps (drop u ts) ≤ f .len
-      go (yes m) = s .most u m
-      go (no m) = passed-over u (omega (arith, m)) l
+      word : (i : ℕ) → i < run ps (drop u ts) → getD ts (u + i) 0 ≡ getD ps i 0
+      word i m = sym (getD-drop u ts i 0) ∙ sym (match-equal (getD ps i 0) (getD (drop u ts) i 0) (run-match ps (drop u ts) i m))
 
-  here : len ≡ max (f .len) (run ps (drop (r - f .len) ts))
-  here = rw (tail-is (r - f .len) ts) at e
-
-  reached : (n : ℕ) → f .len ≤ n → run ps (drop (r - f .len) ts) ≤ n → (u : ℕ) → u < r - f .len + 1 → run ps (drop u ts) ≤ n
-  reached n l m u b = go (ℕ-discrete u (r - f .len))
+  before : (u : ℕ) → u < r → run ps (drop u ts) ≤ f .len
+  before u l = go (decLt u t) (decLe (run ps (drop u ts)) (f .len))
     where
-      go : Dec (u ≡ r - f .len) → run ps (drop u ts) ≤ n
+      go : Dec (u < t) → Dec (run ps (drop u ts) ≤ f .len) → run ps (drop u ts) ≤ f .len
+      go (yes m) d = s .most u m
+      go (no m) (yes d) = d
+      go (no m) (no d) = absurd (c .none u (omega (arith, m)) l (both u (omega (arith, d))))
+
+  here : len ≡ max (f .len) (run ps (drop r ts))
+  here = rw (tail-is r ts) at e
+
+  reached : (n : ℕ) → f .len ≤ n → run ps (drop r ts) ≤ n → (u : ℕ) → u < r + 1 → run ps (drop u ts) ≤ n
+  reached n l m u b = go (ℕ-discrete u r)
+    where
+      go : Dec (u ≡ r) → run ps (drop u ts) ≤ n
       go (yes q) = rw q m
       go (no d) = omega (arith, before u (omega (arith, d)))
 
-  seen-better : Seen ps ts floor (r - f .len + 1) (better f a len)
+  seen-better : Seen ps ts floor (r + 1) (better f a len)
   seen-better = go (decLt (f .len) len)
     where
-      go : Dec (f .len < len) → Seen ps ts floor (r - f .len + 1) (better f a len)
+      go : Dec (f .len < len) → Seen ps ts floor (r + 1) (better f a len)
       go (yes l) =
-          subst (λ g. Seen ps ts floor (r - f .len + 1) g) (better-new f a len l)
+          subst (λ g. Seen ps ts floor (r + 1) g) (better-new f a len l)
           (record {
             short-pattern = s .short-pattern;
             short-text = s .short-text;
             within = omega (arith, c .within);
-            small = omega (arith, here, run-within ps (drop (r - f .len) ts), s .short-pattern);
+            small = omega (arith, here, run-within ps (drop r ts), s .short-pattern);
             least = omega (arith, s .least);
             most = reached len (omega arith) (omega (arith, here));
             long = λ m. rw at (omega (arith, here));
             first = λ m u b. omega (arith, before u (omega (arith, at)));
           })
       go (no l) =
-          subst (λ g. Seen ps ts floor (r - f .len + 1) g) (better-old f a len (omega (arith, l)))
+          subst (λ g. Seen ps ts floor (r + 1) g) (better-old f a len (omega (arith, l)))
           (record {
             short-pattern = s .short-pattern;
             short-text = s .short-text;
@@ -105,8 +110,8 @@ module _ (ps ts : List ℕ) (floor t : ℕ) (f : Found) (r len : ℕ) (a : TextA
             first = s .first;
           })
 
-  pub seen-more : (g : Found) → g ≡ better f a len → Seen ps ts floor (r - f .len + 1) g
-  seen-more g q = subst (λ x. Seen ps ts floor (r - f .len + 1) x) (sym q) seen-better
+  pub seen-more : (g : Found) → g ≡ better f a len → Seen ps ts floor (r + 1) g
+  seen-more g q = subst (λ x. Seen ps ts floor (r + 1) x) (sym q) seen-better
 
 -- At the end no run is longer: the pattern has no more words, or the text has none from t on.
 seen-end : (ps ts : List ℕ) (floor t : ℕ) (f : Found) → Seen ps ts floor t f → ((u : ℕ) → t ≤ u → run ps (drop u ts) ≤ f .len) → Row ps ts floor f

@@ -6,8 +6,8 @@ use tile::PatternAt;
 use tile::TextAt;
 use tiling::Compared;
 ghost use mathlib.Core.Path.{_≡_};
-ghost use Prim.Native.Nat.{_+_, _≤_, _<_};
-ghost use lib.ListN.{length, drop, getD};
+ghost use Prim.Native.Nat.{_+_, _-_, _≤_, _<_};
+ghost use lib.ListN.{length, drop};
 ghost use Rattle.tiling.specs.Comparing.{plainRefusal};
 ghost use Rattle.sweep.specs.Workspace.{Space, state};
 ghost use Rattle.sweep.specs.Row.{Row};
@@ -15,18 +15,22 @@ ghost use Rattle.sweep.specs.First.{First};
 ghost use Rattle.sweep.specs.Progress.{Fits, Ready, Sweeping, Onward, Finished};
 ghost use Rattle.plain.specs.Promise.{Plain};
 ghost use Rattle.plain.specs.Bounds.{LongestRuns};
+ghost use Rattle.plain.specs.Pair.{SideBySide};
 
-// The first position of the text from `from` on that holds w, or its end.
-fn next_word(text: &[u32], from: TextAt, w: u32) -> TextAt
-    requires { ⌜ from .0 ≤ length (now text) ⌝ }
-    ensures { λ r. ⌜ First (λ i. getD (now (text .entry)) i 0 ≡ w) (from .0) (length (now (text .entry))) (r .0) ⌝ }
+// The first position of the text from `from` on that has a, with b offset words further on; else the end of those that have a
+// word so far on.
+fn next_pair(text: &[u32], from: TextAt, offset: usize, a: u32, b: u32) -> TextAt
+    requires { ⌜ from .0 + offset ≤ length (now text) ⌝ }
+    ensures { λ r. ⌜ First (SideBySide (now (text .entry)) offset a b) (from .0) (length (now (text .entry)) - offset) (r .0) ⌝ }
 {
     let at = from.0;
-    TextAt(at + tile::words_before(&text[at..], w))
+    let beyond = at + offset;
+    TextAt(at + tile::positions_before(&text[at..], &text[beyond..], a, b))
 }
 
 // The longest run of the row that pattern starts, where it is longer than floor, and the first position on the text that
-// has it. A run longer than what was found needs the word at that offset, so only its occurrences are looked at.
+// has it. A run longer than what was found has the pattern's first word and the word at that offset, so only the positions
+// where both stand are looked at.
 fn row_search(pattern: &[u32], text: &[u32], floor: usize) -> Found
     requires { ⌜ (floor ≤ 2048) × (length (now pattern) ≤ 2048) × (length (now text) ≤ 2048) ⌝ }
     ensures { λ r. ⌜ Row (now (pattern .entry)) (now (text .entry)) floor r ⌝ }
@@ -38,7 +42,7 @@ fn row_search(pattern: &[u32], text: &[u32], floor: usize) -> Found
     let mut t = 0;
     while found.len < pattern.len() && t + found.len < text.len() {
         let offset = found.len;
-        let at = next_word(text, TextAt(t + offset), pattern[offset]).0 - offset;
+        let at = next_pair(text, TextAt(t), offset, pattern[0], pattern[offset]).0;
         let len = tile::longer_run(pattern, &text[at..], offset);
         found = sweep::keep(found, TextAt(at), len);
         t = at + 1;

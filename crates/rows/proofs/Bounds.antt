@@ -16,6 +16,7 @@ use Rattle.symbol.specs.Word.{isCall, matches}
 use Rattle.symbol.proofs.Word.{no-match-left}
 use Rattle.tiling.specs.Run.{run}
 use Rattle.tiling.specs.Tiling.{State, runAt}
+use Rattle.tiling.proofs.Leading.{leading-cons}
 use Rattle.tiling.proofs.Run.{run-within}
 use Rattle.tiling.proofs.Best.{past-pattern}
 use Rattle.tile.specs.declared.TextAt.{TextAt}
@@ -34,8 +35,7 @@ use Rattle.rows.proofs.Pairs.{run-further}
 -- ---- one row
 -- A run that begins with words that match.
 run-longer : (ps ts : List ℕ) (p t : ℕ) → p < length ps → t < length ts → matches (getD ps p 0) (getD ts t 0) ≡ true → run (drop p ps) (drop t ts) ≡ suc (run (drop (p + 1) ps) (drop (t + 1) ts))
-unfolding run
-run-longer ps ts p t h k e = rw (add-one p, add-one t, drop-cons ps p 0 h, drop-cons ts t 0 k, run, e) refl
+run-longer ps ts p t h k e = rw (add-one p, add-one t, drop-cons ps p 0 h, drop-cons ts t 0 k) (leading-cons matches _ _ _ _ e)
 
 module _ (x : Pass) (ws : List ℕ) where
   abbrev st : State

@@ -3,11 +3,7 @@
 use Prim.Native.Nat.{ℕ, _+_, _-_, _≤_, _<_}
 use native.Mathlib.Decide.{ℕ-discrete}
 use native.Mathlib.Omega.{arith}
-use mathlib.Core.Path.{_≡_, sym, _∙_, ap}
-use mathlib.Core.List.{List}
-use lib.ListN.{length, getD}
-use Rattle.tile.specs.Leading.{before}
-use Rattle.tile.proofs.Measure.{before-within, before-passes, before-found}
+use mathlib.Core.Path.{_≡_}
 use Rattle.sweep.specs.First.{First}
 
 -- None of the numbers from `from` up to i has the property.
@@ -32,19 +28,6 @@ module _ (Q : ℕ → Type 0) (from n i : ℕ) (r : Passing Q from n i) where
 
   pub first-at : Q i → First Q from n i
   first-at q = record { least = r .least; within = r .within; none = r .none; stops = λ l. q }
-
--- The first word of a part that is w, where the part has the numbers f from `from` on.
-pub first-word : (f : ℕ → ℕ) (w from : ℕ) (part : List ℕ) → ((i : ℕ) → i < length part → getD part i 0 ≡ f (from + i)) → First (λ i. f i ≡ w) from (from + length part) (from + before w part)
-first-word f w from part here = record { least = omega arith; within = omega (arith, before-within w part); none = none; stops = stops }
-  where
-    none : (i : ℕ) → from ≤ i → i < from + before w part → f i ≡ w → ⊥
-    none i a b q =
-        let at : from + (i - from) ≡ i = omega arith in
-        let e : getD part (i - from) 0 ≡ f i = here (i - from) (omega (arith, before-within w part)) ∙ ap f at in
-        before-passes w part (i - from) (omega arith) (e ∙ q)
-
-    stops : from + before w part < from + length part → f (from + before w part) ≡ w
-    stops h = sym (here (before w part) (omega arith)) ∙ before-found w part (omega arith)
 
 -- The next one after p is further on.
 pub first-rises : (Q : ℕ → Type 0) (p n r : ℕ) → p < n → First Q (p + 1) n r → n - r < n - p

@@ -1,7 +1,7 @@
 pub mod Marking
-pub mod Leading
 pub mod Blocks
 pub mod Measure
+pub mod Before
 pub mod Tail
 pub mod Score
 pub mod Difference

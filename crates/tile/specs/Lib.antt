@@ -1,3 +1,3 @@
-pub mod Leading
+pub mod Before
 pub mod Block
 pub mod Listed

@@ -7,7 +7,7 @@ ghost use lib.ListN.{length, take, drop};
 ghost use Rattle.buffer.specs.Buffer.{onto};
 ghost use Rattle.tiling.specs.Run.{run, mark};
 ghost use Rattle.tiling.specs.Listing.{tileWords, score, shift};
-ghost use Rattle.tile.specs.Leading.{before};
+ghost use Rattle.tile.specs.Before.{before};
 ghost use Rattle.tile.specs.Block.{block, wholeBlocks};
 ghost use Rattle.tile.specs.Listed.{listed};
 
@@ -59,8 +59,8 @@ fn run_length(pattern: &[u32], text: &[u32]) -> usize
     n
 }
 
-// The run where it is longer than best, else best. Most candidates are dismissed by the words at offset best, or by the
-// first: where either do not match, the run is no longer than best.
+// The run where it is longer than best, else best. Most candidates are dismissed by the words at offset best alone: where
+// these do not match, the run is no longer than best.
 pub fn longer_run(pattern: &[u32], text: &[u32], best: usize) -> usize
     ensures { λ r. ⌜ r ≡ max best (run (now (pattern .entry)) (now (text .entry))) ⌝ }
 {
@@ -73,9 +73,6 @@ pub fn longer_run(pattern: &[u32], text: &[u32], best: usize) -> usize
     if !symbol::words_match(pattern[best], text[best]) {
         return best;
     }
-    if !symbol::words_match(pattern[0], text[0]) {
-        return best;
-    }
     let n = run_length(pattern, text);
     if n < best {
         return best;
@@ -83,37 +80,40 @@ pub fn longer_run(pattern: &[u32], text: &[u32], best: usize) -> usize
     n
 }
 
-// Whether none of the first words is w, as many as a block has.
-fn block_lacks(words: &[u32], w: u32) -> bool
-    requires { ⌜ block ≤ length (now words) ⌝ }
-    ensures { λ r. ⌜ r ≡ leb block (before w (now (words .entry))) ⌝ }
+// Whether a and b never stand side by side at the first positions of two parts, as many as a block has: a in the one, b in the other.
+fn block_lacks(words: &[u32], others: &[u32], a: u32, b: u32) -> bool
+    requires { ⌜ (block ≤ length (now words)) × (block ≤ length (now others)) ⌝ }
+    ensures { λ r. ⌜ r ≡ leb block (before a b (now (words .entry)) (now (others .entry))) ⌝ }
 {
     let mut all = true;
     let mut i = 0;
     while i < BLOCK {
-        all = all & (words[i] != w);
+        all = all & ((words[i] != a) | (others[i] != b));
         i += 1;
     }
     all
 }
 
-// How many words stand before the first that is w, in whole blocks.
-fn blocks_before(words: &[u32], w: u32) -> usize
-    ensures { λ r. ⌜ r ≡ wholeBlocks (before w (now (words .entry))) ⌝ }
+// How many positions come before the first at which a and b stand side by side, in whole blocks.
+fn blocks_before(words: &[u32], others: &[u32], a: u32, b: u32) -> usize
+    ensures { λ r. ⌜ r ≡ wholeBlocks (before a b (now (words .entry)) (now (others .entry))) ⌝ }
 {
     let mut n = 0;
-    while BLOCK <= words.len() - n && block_lacks(&words[n..], w) {
+    while BLOCK <= words.len() - n
+        && BLOCK <= others.len() - n
+        && block_lacks(&words[n..], &others[n..], a, b)
+    {
         n += BLOCK;
     }
     n
 }
 
-// How many words stand before the first that is w; all of them where none is.
-pub fn words_before(words: &[u32], w: u32) -> usize
-    ensures { λ r. ⌜ r ≡ before w (now (words .entry)) ⌝ }
+// How many positions come before the first at which the one part has a and the other b; where none does, as many as both have.
+pub fn positions_before(words: &[u32], others: &[u32], a: u32, b: u32) -> usize
+    ensures { λ r. ⌜ r ≡ before a b (now (words .entry)) (now (others .entry)) ⌝ }
 {
-    let mut n = blocks_before(words, w);
-    while n < words.len() && words[n] != w {
+    let mut n = blocks_before(words, others, a, b);
+    while n < words.len() && n < others.len() && (words[n] != a) | (others[n] != b) {
         n += 1;
     }
     n

@@ -6,18 +6,18 @@ use native.Mathlib.Decide.{decLt}
 use native.Mathlib.Omega.{arith}
 use mathlib.Core.Path.{_≡_, refl, sym}
 use lib.ListN.{length, drop, drop-of-length-le}
-use Rattle.tiling.specs.Run.{run}
+use Rattle.tiling.specs.Run.{leading}
 use Rattle.tiling.specs.Tiling.{Tile, State, runAt, bestText, rowLength, best, Best}
-use Rattle.tiling.proofs.Run.{run-nil}
+use Rattle.tiling.proofs.Leading.{leading-nil}
 use Rattle.tiling.proofs.Peak.{peak-is}
 
 -- There is no run past an end.
 pub past-pattern : (s : State) (p t : ℕ) → length (s .pattern) ≤ p → runAt s p t ≡ 0
-unfolding run
+unfolding leading
 past-pattern s p t h = rw (drop-of-length-le (s .pattern) h) refl
 
 pub past-text : (s : State) (p t : ℕ) → length (s .text) ≤ t → runAt s p t ≡ 0
-past-text s p t h = rw (drop-of-length-le (s .text) h) (run-nil (drop p (s .pattern)))
+past-text s p t h = rw (drop-of-length-le (s .text) h) (leading-nil _ (drop p (s .pattern)))
 
 -- The longest run of a row, and the first of them.
 pub row-most : (s : State) (p t : ℕ) → runAt s p t ≤ rowLength s p

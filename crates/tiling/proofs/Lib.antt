@@ -1,5 +1,6 @@
 pub mod Known
 pub mod Each
+pub mod Leading
 pub mod Run
 pub mod Tally
 pub mod Peak

@@ -8,11 +8,12 @@ use native.Mathlib.Omega.{arith}
 use mathlib.Core.Path.{_≡_, refl, sym, _∙_, ap}
 use mathlib.Core.Bool.{Bool, true, false}
 use mathlib.Core.List.{List, [], _∷_}
-use lib.ListN.{length, drop, getD}
+use lib.ListN.{length, getD, List·getD-eq-default}
 use Rattle.symbol.specs.Word.{matches}
 use Rattle.symbol.proofs.Word.{call-below, no-match-left, no-match-right, match-swap}
 use Rattle.tiling.specs.Run.{run, mark}
 use Rattle.tiling.specs.Demand.{Covers}
+use Rattle.tiling.proofs.Leading.{leading-within, leading-passes, leading-stops}
 
 -- ---- the word 0
 pub zero-left : (w : ℕ) → matches 0 w ≡ false
@@ -29,55 +30,21 @@ pub not-zero-right : (a b : ℕ) → matches a b ≡ true → b ≡ 0 → ⊥
 not-zero-right a b m = not-zero-left b a (match-swap a b m)
 
 -- ---- the run of two lists
-pub run-nil : (ps : List ℕ) → run ps [] ≡ 0
-unfolding run
-run-nil [] = refl
-run-nil (p ∷ ps) = refl
-
-run-cons : (p t : ℕ) (ps ts : List ℕ) → matches p t ≡ true → run (p ∷ ps) (t ∷ ts) ≡ suc (run ps ts)
-unfolding run
-run-cons p t ps ts e = rw (run, e) refl
-
-run-none : (p t : ℕ) (ps ts : List ℕ) → matches p t ≡ false → run (p ∷ ps) (t ∷ ts) ≡ 0
-unfolding run
-run-none p t ps ts e = rw (run, e) refl
-
 -- A run stays within both lists.
 pub run-within : (ps ts : List ℕ) → run ps ts ≤ min (length ps) (length ts)
-unfolding run
-run-within [] ts = omega arith
-run-within (p ∷ ps) [] = omega arith
-run-within (p ∷ ps) (t ∷ ts) = go (run-within ps ts) (matches p t) refl
-  where
-    go : run ps ts ≤ min (length ps) (length ts) → (b : Bool) → matches p t ≡ b → run (p ∷ ps) (t ∷ ts) ≤ min (suc (length ps)) (suc (length ts))
-    go h true e = omega (arith, run-cons p t ps ts e)
-    go h false e = omega (arith, run-none p t ps ts e)
+run-within = leading-within matches
 
 -- Each pair of words of a run matches, and the pair after it does not (past an end stands 0).
 pub run-match : (ps ts : List ℕ) (i : ℕ) → i < run ps ts → matches (getD ps i 0) (getD ts i 0) ≡ true
-unfolding run
-run-match [] ts i h = absurd (not-suc-le-zero h)
-run-match (p ∷ ps) [] i h = absurd (not-suc-le-zero h)
-run-match (p ∷ ps) (t ∷ ts) zero h = go (matches p t) refl
-  where
-    go : (b : Bool) → matches p t ≡ b → matches p t ≡ true
-    go true e = e
-    go false e = absurd (not-suc-le-zero (rw (run-none p t ps ts e) at h))
-run-match (p ∷ ps) (t ∷ ts) (suc i) h = go (run-match ps ts i) (matches p t) refl
-  where
-    go : (i < run ps ts → matches (getD ps i 0) (getD ts i 0) ≡ true) → (b : Bool) → matches p t ≡ b → matches (getD ps i 0) (getD ts i 0) ≡ true
-    go f true e = f (omega (arith, run-cons p t ps ts e))
-    go f false e = absurd (not-suc-le-zero (rw (run-none p t ps ts e) at h))
+run-match = leading-passes matches
 
 pub run-stops : (ps ts : List ℕ) → matches (getD ps (run ps ts) 0) (getD ts (run ps ts) 0) ≡ false
-unfolding run
-run-stops [] ts = zero-left (getD ts 0 0)
-run-stops (p ∷ ps) [] = zero-right p
-run-stops (p ∷ ps) (t ∷ ts) = go (run-stops ps ts) (matches p t) refl
+run-stops ps ts = go (decLt (run ps ts) (length ps)) (decLt (run ps ts) (length ts))
   where
-    go : matches (getD ps (run ps ts) 0) (getD ts (run ps ts) 0) ≡ false → (b : Bool) → matches p t ≡ b → matches (getD (p ∷ ps) (run (p ∷ ps) (t ∷ ts)) 0) (getD (t ∷ ts) (run (p ∷ ps) (t ∷ ts)) 0) ≡ false
-    go h true e = rw (run-cons p t ps ts e) h
-    go h false e = rw (run-none p t ps ts e) e
+    go : Dec (run ps ts < length ps) → Dec (run ps ts < length ts) → matches (getD ps (run ps ts) 0) (getD ts (run ps ts) 0) ≡ false
+    go (yes a) (yes b) = leading-stops matches ps ts (omega arith)
+    go (no a) b = rw (List·getD-eq-default ps 0 {n = run ps ts} (omega (arith, a))) (zero-left (getD ts (run ps ts) 0))
+    go (yes a) (no b) = rw (List·getD-eq-default ts 0 {n = run ps ts} (omega (arith, b))) (zero-right (getD ps (run ps ts) 0))
 
 -- So a stretch in which every pair matches is no longer than the run.
 pub run-least : (ps ts : List ℕ) (n : ℕ) → ((i : ℕ) → i < n → matches (getD ps i 0) (getD ts i 0) ≡ true) → n ≤ run ps ts
@@ -86,18 +53,6 @@ run-least ps ts n h = go (decLe n (run ps ts))
     go : Dec (n ≤ run ps ts) → n ≤ run ps ts
     go (yes k) = k
     go (no k) = let f : false ≡ true = sym (run-stops ps ts) ∙ h (run ps ts) (omega (arith, k)) in let z : _≡_ {A = ℕ} 0 1 = cc in omega arith
-
--- The words of a run after its first n are the run of what follows these.
-pub run-after : (n : ℕ) (ps ts : List ℕ) → n ≤ run ps ts → run ps ts ≡ n + run (drop n ps) (drop n ts)
-unfolding run
-run-after zero ps ts h = omega arith
-run-after (suc n) [] ts h = absurd (not-suc-le-zero h)
-run-after (suc n) (p ∷ ps) [] h = absurd (not-suc-le-zero h)
-run-after (suc n) (p ∷ ps) (t ∷ ts) h = go (run-after n ps ts) (matches p t) refl
-  where
-    go : (n ≤ run ps ts → run ps ts ≡ n + run (drop n ps) (drop n ts)) → (b : Bool) → matches p t ≡ b → run (p ∷ ps) (t ∷ ts) ≡ suc n + run (drop n ps) (drop n ts)
-    go f true e = let k = run-cons p t ps ts e in omega (arith, k, f (omega (arith, k)))
-    go f false e = absurd (not-suc-le-zero (rw (run-none p t ps ts e) at h))
 
 -- ---- marking
 pub length-mark : (i n : ℕ) (xs : List ℕ) → length (mark i n xs) ≡ length xs

@@ -1,17 +1,21 @@
 -- Matching runs, and marked words.
 use Prim.Native.Nat.{ℕ, zero, suc}
-use mathlib.Core.Bool.{true, false}
+use mathlib.Core.Bool.{Bool, true, false}
 use mathlib.Core.List.{List, [], _∷_}
 use Rattle.symbol.specs.Word.{matches}
+
+-- How many pairs of words, one of each list, pass a test one after another from the start of two lists.
+unfoldable pub leading : (ℕ → ℕ → Bool) → List ℕ → List ℕ → ℕ
+leading test [] ys = 0
+leading test (x ∷ xs) [] = 0
+leading test (x ∷ xs) (y ∷ ys) = elim (test x y) [ true ↦ suc (leading test xs ys) | false ↦ 0 ]
 
 -- How many words match one by one from the start of two lists.
 -- "The run at (p, t) is the longest stretch of words matching one by one from p and from t, stopping at the end of a strand,
 -- at a pair that doesn't match, or at a marked word on either side. The run at a place is measured on the parts of the two
 -- strands that begin there."
-unfoldable pub run : List ℕ → List ℕ → ℕ
-run [] ts = 0
-run (p ∷ ps) [] = 0
-run (p ∷ ps) (t ∷ ts) = elim (matches p t) [ true ↦ suc (run ps ts) | false ↦ 0 ]
+abbrev pub run : List ℕ → List ℕ → ℕ
+run = leading matches
 
 -- The list with n words marked from position i on. A marked word is written as 0, which is no call: a run stops at it, and no
 -- sound sequence holds it, so that all words start unmarked.

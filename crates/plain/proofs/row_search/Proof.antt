@@ -1,10 +1,10 @@
 -- `plain::row_search` meets its contract: at the head of each turn what was found is the longest of the runs before t, or the floor.
 -- Assumes nothing.
 use Prim.Native.Nat.{_+_, _-_}
-use borrow.Author.Needs.{needs}
 use borrow.Author.Tests.{ltb-true, ltb-false}
 use lib.ListN.{length}
 use Rattle.plain.proofs.Scan.{Seen, in-reach, seen-none, seen-more, seen-pattern, seen-text}
+use borrow.Author.Needs.{needs}
 use Rattle.plain.proofs.row_search.Statement.{statement}
 use Rattle.plain.proofs.row_search.Tie as tie
 
@@ -20,20 +20,17 @@ loop-holds c = search seen-none
 add-if2 : tie.Need-add-if2 Inv-loop μ-loop
 add-if2 c = search needs
 
-add-longer-run : tie.Need-add-longer-run Inv-loop μ-loop
-add-longer-run c = search needs
+shared-slice-read-next-pair : tie.Need-shared-slice-read-next-pair Inv-loop μ-loop
+shared-slice-read-next-pair c = search needs
 
-mul-next-word : tie.Need-mul-next-word Inv-loop μ-loop
-mul-next-word c = search needs
+mul-next-pair : tie.Need-mul-next-pair Inv-loop μ-loop
+mul-next-pair c = search needs
 
-shared-slice-read-next-word : tie.Need-shared-slice-read-next-word Inv-loop μ-loop
-shared-slice-read-next-word c = search needs
+shared-slice-read-next-pair-2 : tie.Need-shared-slice-read-next-pair-2 Inv-loop μ-loop
+shared-slice-read-next-pair-2 c = search needs
 
-next-word-requires : tie.Need-next-word-requires Inv-loop μ-loop
-next-word-requires c κs = search in-reach
-
-sub-at : tie.Need-sub-at Inv-loop μ-loop
-sub-at c = search needs
+next-pair-requires : tie.Need-next-pair-requires Inv-loop μ-loop
+next-pair-requires c κs = search in-reach
 
 mul-longer-run : tie.Need-mul-longer-run Inv-loop μ-loop
 mul-longer-run c = search needs
@@ -76,11 +73,10 @@ row-search-spec =
     μ-loop
     loop-holds
     add-if2
-    add-longer-run
-    mul-next-word
-    shared-slice-read-next-word
-    next-word-requires
-    sub-at
+    shared-slice-read-next-pair
+    mul-next-pair
+    shared-slice-read-next-pair-2
+    next-pair-requires
     mul-longer-run
     sub-longer-run
     part-longer-run-start

@@ -4,7 +4,7 @@ use Prim.Native.Nat.{_-_}
 use Rattle.tiling.specs.Run.{run}
 use Rattle.tile.specs.Block.{block}
 use Rattle.tile.proofs.Blocks.{Tested, tested-none, tested-all}
-use Rattle.tile.proofs.Measure.{run-tested}
+use Rattle.tile.proofs.Measure.{pairs-tested}
 use borrow.Author.Needs.{needs}
 use Rattle.tile.proofs.block_matches.Statement.{statement}
 use Rattle.tile.proofs.block_matches.Tie as tie
@@ -40,7 +40,7 @@ loop-less : tie.Need-loop-less Inv-loop μ-loop
 loop-less c = search needs
 
 loop-again : tie.Need-loop-again Inv-loop μ-loop
-loop-again c = search run-tested
+loop-again c = search pairs-tested
 
 returns : tie.Need-returns Inv-loop μ-loop
 returns c = search tested-all

@@ -1,5 +1,5 @@
--- `tile::blocks_run` meets its contract: at the head of each turn n words match, in whole blocks, and the loop ends where a list has too few
--- words for another block, or at a block that does not match.
+-- `tile::blocks_run` meets its contract: at the head of each turn n words match, in whole blocks, and the loop ends where a
+-- list has too few words for another block, or at a block that does not match.
 -- Assumes nothing.
 use Prim.Native.Nat.{_-_, _≤_}
 use native.Mathlib.Omega.{arith}
@@ -7,7 +7,7 @@ use lib.ListN.{length}
 use borrow.Author.Tests.{leb-true}
 use Rattle.tiling.specs.Run.{run}
 use Rattle.tile.proofs.Blocks.{Blocks, block-room, blocks-none, blocks-more, blocks-stop}
-use Rattle.tile.proofs.Measure.{run-parts, run-short-pattern, run-short-text}
+use Rattle.tile.proofs.Measure.{pairs-after, short-first, short-second}
 use borrow.Author.Needs.{needs}
 use Rattle.tile.proofs.blocks_run.Statement.{statement}
 use Rattle.tile.proofs.blocks_run.Tie as tie
@@ -61,16 +61,16 @@ loop-less : tie.Need-loop-less Inv-loop μ-loop
 loop-less c = search needs
 
 loop-again : tie.Need-loop-again Inv-loop μ-loop
-loop-again c = (search (blocks-more, run-parts), search needs, omega (arith, leb-true))
+loop-again c = (search (blocks-more, pairs-after), search needs, omega (arith, leb-true))
 
 returns : tie.Need-returns Inv-loop μ-loop
-returns c = search (blocks-stop, run-parts)
+returns c = search (blocks-stop, pairs-after)
 
 returns-2 : tie.Need-returns-2 Inv-loop μ-loop
-returns-2 c = search run-short-text
+returns-2 c = search short-second
 
 returns-3 : tie.Need-returns-3 Inv-loop μ-loop
-returns-3 c = search run-short-pattern
+returns-3 c = search short-first
 
 pub blocks-run-spec : {M : Type 1} → statement M
 blocks-run-spec =

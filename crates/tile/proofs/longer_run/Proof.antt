@@ -1,5 +1,5 @@
--- `tile::longer_run` meets its contract: a run is no longer than either list, and no longer than best where the words at offset best, or the
--- first, do not match; in each of these cases best is the greater.
+-- `tile::longer_run` meets its contract: a run is no longer than either list, and no longer than best where the words at offset best do not
+-- match; in each of these cases best is the greater.
 -- Assumes nothing.
 use Rattle.tile.proofs.Measure.{longer-pattern, longer-text, longer-stop}
 use borrow.Author.Needs.{needs}
@@ -28,28 +28,16 @@ words-match-requires : tie.Need-words-match-requires
 words-match-requires c κs = search needs
 
 returns-3 : tie.Need-returns-3
-returns-3 c = search (longer-stop, needs)
-
-shared-slice-read-words-match-3 : tie.Need-shared-slice-read-words-match-3
-shared-slice-read-words-match-3 c = search needs
-
-shared-slice-read-words-match-4 : tie.Need-shared-slice-read-words-match-4
-shared-slice-read-words-match-4 c = search needs
-
-words-match-requires-2 : tie.Need-words-match-requires-2
-words-match-requires-2 c κs = search needs
-
-returns-4 : tie.Need-returns-4
-returns-4 c = search (longer-stop, needs)
+returns-3 c = search longer-stop
 
 run-length-requires : tie.Need-run-length-requires
 run-length-requires c κs = search needs
 
+returns-4 : tie.Need-returns-4
+returns-4 c = search needs
+
 returns-5 : tie.Need-returns-5
 returns-5 c = search needs
-
-returns-6 : tie.Need-returns-6
-returns-6 c = search needs
 
 pub longer-run-spec : {M : Type 1} → statement M
 longer-run-spec =
@@ -63,10 +51,6 @@ longer-run-spec =
     shared-slice-read-words-match-2
     words-match-requires
     returns-3
-    shared-slice-read-words-match-3
-    shared-slice-read-words-match-4
-    words-match-requires-2
-    returns-4
     run-length-requires
-    returns-5
-    returns-6)
+    returns-4
+    returns-5)

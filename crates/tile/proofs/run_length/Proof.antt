@@ -5,7 +5,7 @@ use lib.ListN.{length}
 use borrow.Author.Tests.{ltb-true, ltb-false}
 use Rattle.tiling.specs.Run.{run}
 use Rattle.tile.proofs.Blocks.{blocks-within}
-use Rattle.tile.proofs.Measure.{run-more, run-pattern, run-text, run-stop}
+use Rattle.tile.proofs.Measure.{pairs-more, pairs-stop, pairs-first, pairs-second}
 use borrow.Author.Needs.{needs}
 use Rattle.tile.proofs.run_length.Statement.{statement}
 use Rattle.tile.proofs.run_length.Tie as tie
@@ -44,16 +44,16 @@ loop-less : tie.Need-loop-less Inv-loop μ-loop
 loop-less c = search needs
 
 loop-again : tie.Need-loop-again Inv-loop μ-loop
-loop-again c = search (run-more, ltb-true)
+loop-again c = search (pairs-more, ltb-true)
 
 returns : tie.Need-returns Inv-loop μ-loop
-returns c = search run-stop
+returns c = search pairs-stop
 
 returns-2 : tie.Need-returns-2 Inv-loop μ-loop
-returns-2 c = search (run-text, ltb-false)
+returns-2 c = search (pairs-second, ltb-false)
 
 returns-3 : tie.Need-returns-3 Inv-loop μ-loop
-returns-3 c = search run-pattern
+returns-3 c = search pairs-first
 
 pub run-length-spec : {M : Type 1} → statement M
 run-length-spec =
