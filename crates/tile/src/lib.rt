@@ -49,7 +49,7 @@ fn blocks_run(pattern: &[u32], text: &[u32]) -> usize
 }
 
 // How many words match one by one from the start of two parts.
-fn run_length(pattern: &[u32], text: &[u32]) -> usize
+pub fn run_length(pattern: &[u32], text: &[u32]) -> usize
     ensures { λ r. ⌜ r ≡ run (now (pattern .entry)) (now (text .entry)) ⌝ }
 {
     let mut n = blocks_run(pattern, text);

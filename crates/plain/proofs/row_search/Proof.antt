@@ -32,20 +32,20 @@ shared-slice-read-next-pair-2 c = search needs
 next-pair-requires : tie.Need-next-pair-requires Inv-loop μ-loop
 next-pair-requires c κs = search in-reach
 
-mul-longer-run : tie.Need-mul-longer-run Inv-loop μ-loop
-mul-longer-run c = search needs
+mul-run-length : tie.Need-mul-run-length Inv-loop μ-loop
+mul-run-length c = search needs
 
-sub-longer-run : tie.Need-sub-longer-run Inv-loop μ-loop
-sub-longer-run c = search needs
+sub-run-length : tie.Need-sub-run-length Inv-loop μ-loop
+sub-run-length c = search needs
 
-part-longer-run-start : tie.Need-part-longer-run-start Inv-loop μ-loop
-part-longer-run-start c = search needs
+part-run-length-start : tie.Need-part-run-length-start Inv-loop μ-loop
+part-run-length-start c = search needs
 
-part-longer-run-end : tie.Need-part-longer-run-end Inv-loop μ-loop
-part-longer-run-end c = search needs
+part-run-length-end : tie.Need-part-run-length-end Inv-loop μ-loop
+part-run-length-end c = search needs
 
-longer-run-requires : tie.Need-longer-run-requires Inv-loop μ-loop
-longer-run-requires c κs = search needs
+run-length-requires : tie.Need-run-length-requires Inv-loop μ-loop
+run-length-requires c κs = search needs
 
 keep-requires : tie.Need-keep-requires Inv-loop μ-loop
 keep-requires c κs = search needs
@@ -77,11 +77,11 @@ row-search-spec =
     mul-next-pair
     shared-slice-read-next-pair-2
     next-pair-requires
-    mul-longer-run
-    sub-longer-run
-    part-longer-run-start
-    part-longer-run-end
-    longer-run-requires
+    mul-run-length
+    sub-run-length
+    part-run-length-start
+    part-run-length-end
+    run-length-requires
     keep-requires
     add-t
     loop-less
