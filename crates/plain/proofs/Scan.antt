@@ -1,7 +1,7 @@
 -- Searching a row. What was found so far is the longest of the runs before t, or the floor. A longer run at u has the pattern's first word
 -- and the word at that offset, so the positions that lack either can be passed over; and where too few words are left, no run is longer.
 -- Assumes nothing.
-use Prim.Native.Nat.{ℕ, _+_, _-_, _≤_, _<_}
+use Prim.Native.Nat.{ℕ, _+_, _-_, _≤_, _<_, max}
 use native.Mathlib.Nat.{not-suc-le-zero}
 use native.Mathlib.Decide.{decLe, decLt, ℕ-discrete}
 use native.Mathlib.Omega.{arith}
@@ -51,7 +51,7 @@ seen-none ps ts floor a h p t =
       first = λ l. absurd (omega arith);
     }
 
-module _ (ps ts : List ℕ) (floor t : ℕ) (f : Found) (r len : ℕ) (a : TextAt) (s : Seen ps ts floor t f) (h : f .len < length ps) (k : t + f .len < length ts) (c : First (SideBySide ts (f .len) (getD ps 0 0) (getD ps (f .len) 0)) t (length ts - f .len) r) (at : a .0 ≡ r) (e : len ≡ run ps (take (length ts - r) (drop r ts))) where
+module _ (ps ts : List ℕ) (floor t : ℕ) (f : Found) (r len : ℕ) (a : TextAt) (s : Seen ps ts floor t f) (h : f .len < length ps) (k : t + f .len < length ts) (c : First (SideBySide ts (f .len) (getD ps 0 0) (getD ps (f .len) 0)) t (length ts - f .len) r) (at : a .0 ≡ r) (e : len ≡ max (f .len) (run ps (take (length ts - r) (drop r ts)))) where
   -- A run longer than what was found has both words.
   both : (u : ℕ) → f .len < run ps (drop u ts) → SideBySide ts (f .len) (getD ps 0 0) (getD ps (f .len) 0) u
   both u l =
@@ -71,7 +71,7 @@ module _ (ps ts : List ℕ) (floor t : ℕ) (f : Found) (r len : ℕ) (a : TextA
       go (no m) (yes d) = d
       go (no m) (no d) = absurd (c .none u (omega (arith, m)) l (both u (omega (arith, d))))
 
-  here : len ≡ run ps (drop r ts)
+  here : len ≡ max (f .len) (run ps (drop r ts))
   here = rw (tail-is r ts) at e
 
   reached : (n : ℕ) → f .len ≤ n → run ps (drop r ts) ≤ n → (u : ℕ) → u < r + 1 → run ps (drop u ts) ≤ n

@@ -43,7 +43,7 @@ fn row_search(pattern: &[u32], text: &[u32], floor: usize) -> Found
     while found.len < pattern.len() && t + found.len < text.len() {
         let offset = found.len;
         let at = next_pair(text, TextAt(t), offset, pattern[0], pattern[offset]).0;
-        let len = tile::run_length(pattern, &text[at..]);
+        let len = tile::measured_run(pattern, &text[at..], offset);
         found = sweep::keep(found, TextAt(at), len);
         t = at + 1;
     }

@@ -48,19 +48,35 @@ fn blocks_run(pattern: &[u32], text: &[u32]) -> usize
     n
 }
 
-// How many words match one by one from the start of two parts.
-pub fn run_length(pattern: &[u32], text: &[u32]) -> usize
+// How many words match one by one from the start of two parts, of which some are known to.
+fn run_from(pattern: &[u32], text: &[u32], known: usize) -> usize
+    requires { ⌜ known ≤ run (now pattern) (now text) ⌝ }
     ensures { λ r. ⌜ r ≡ run (now (pattern .entry)) (now (text .entry)) ⌝ }
 {
-    let mut n = blocks_run(pattern, text);
+    let mut n = known;
     while n < pattern.len() && n < text.len() && symbol::words_match(pattern[n], text[n]) {
         n += 1;
     }
     n
 }
 
-// The run where it is longer than best, else best. Most candidates are dismissed by the words at offset best alone: where
-// these do not match, the run is no longer than best.
+// The run where it is longer than best, else best. The words after the last whole block are looked at only where they decide.
+pub fn measured_run(pattern: &[u32], text: &[u32], best: usize) -> usize
+    ensures { λ r. ⌜ r ≡ max best (run (now (pattern .entry)) (now (text .entry))) ⌝ }
+{
+    let whole = blocks_run(pattern, text);
+    if whole + (BLOCK - 1) <= best {
+        return best;
+    }
+    let n = run_from(pattern, text, whole);
+    if n < best {
+        return best;
+    }
+    n
+}
+
+// The same. Most candidates are dismissed by the words at offset best alone: where these do not match, the run is no longer than
+// best.
 pub fn longer_run(pattern: &[u32], text: &[u32], best: usize) -> usize
     ensures { λ r. ⌜ r ≡ max best (run (now (pattern .entry)) (now (text .entry))) ⌝ }
 {
@@ -73,11 +89,7 @@ pub fn longer_run(pattern: &[u32], text: &[u32], best: usize) -> usize
     if !symbol::words_match(pattern[best], text[best]) {
         return best;
     }
-    let n = run_length(pattern, text);
-    if n < best {
-        return best;
-    }
-    n
+    measured_run(pattern, text, best)
 }
 
 // Whether a and b never stand side by side at the first positions of two parts, as many as a block has: a in the one, b in the other.

@@ -32,20 +32,20 @@ shared-slice-read-next-pair-2 c = search needs
 next-pair-requires : tie.Need-next-pair-requires Inv-loop μ-loop
 next-pair-requires c κs = search in-reach
 
-mul-run-length : tie.Need-mul-run-length Inv-loop μ-loop
-mul-run-length c = search needs
+mul-measured-run : tie.Need-mul-measured-run Inv-loop μ-loop
+mul-measured-run c = search needs
 
-sub-run-length : tie.Need-sub-run-length Inv-loop μ-loop
-sub-run-length c = search needs
+sub-measured-run : tie.Need-sub-measured-run Inv-loop μ-loop
+sub-measured-run c = search needs
 
-part-run-length-start : tie.Need-part-run-length-start Inv-loop μ-loop
-part-run-length-start c = search needs
+part-measured-run-start : tie.Need-part-measured-run-start Inv-loop μ-loop
+part-measured-run-start c = search needs
 
-part-run-length-end : tie.Need-part-run-length-end Inv-loop μ-loop
-part-run-length-end c = search needs
+part-measured-run-end : tie.Need-part-measured-run-end Inv-loop μ-loop
+part-measured-run-end c = search needs
 
-run-length-requires : tie.Need-run-length-requires Inv-loop μ-loop
-run-length-requires c κs = search needs
+measured-run-requires : tie.Need-measured-run-requires Inv-loop μ-loop
+measured-run-requires c κs = search needs
 
 keep-requires : tie.Need-keep-requires Inv-loop μ-loop
 keep-requires c κs = search needs
@@ -77,11 +77,11 @@ row-search-spec =
     mul-next-pair
     shared-slice-read-next-pair-2
     next-pair-requires
-    mul-run-length
-    sub-run-length
-    part-run-length-start
-    part-run-length-end
-    run-length-requires
+    mul-measured-run
+    sub-measured-run
+    part-measured-run-start
+    part-measured-run-end
+    measured-run-requires
     keep-requires
     add-t
     loop-less

@@ -30,14 +30,11 @@ words-match-requires c κs = search needs
 returns-3 : tie.Need-returns-3
 returns-3 c = search longer-stop
 
-run-length-requires : tie.Need-run-length-requires
-run-length-requires c κs = search needs
+measured-run-requires : tie.Need-measured-run-requires
+measured-run-requires c κs = search needs
 
 returns-4 : tie.Need-returns-4
 returns-4 c = search needs
-
-returns-5 : tie.Need-returns-5
-returns-5 c = search needs
 
 pub longer-run-spec : {M : Type 1} → statement M
 longer-run-spec =
@@ -51,6 +48,5 @@ longer-run-spec =
     shared-slice-read-words-match-2
     words-match-requires
     returns-3
-    run-length-requires
-    returns-4
-    returns-5)
+    measured-run-requires
+    returns-4)

@@ -1,26 +1,22 @@
--- `tile::run_length` meets its contract: n words match, first in whole blocks, and the loop ends with a list or at a pair that does not match.
+-- `tile::run_from` meets its contract: n words match, and the loop ends with a list or at a pair that does not match.
 -- Assumes nothing.
 use Prim.Native.Nat.{_-_, _≤_}
 use lib.ListN.{length}
 use borrow.Author.Tests.{ltb-true, ltb-false}
 use Rattle.tiling.specs.Run.{run}
-use Rattle.tile.proofs.Blocks.{blocks-within}
 use Rattle.tile.proofs.Measure.{pairs-more, pairs-stop, pairs-first, pairs-second}
 use borrow.Author.Needs.{needs}
-use Rattle.tile.proofs.run_length.Statement.{statement}
-use Rattle.tile.proofs.run_length.Tie as tie
+use Rattle.tile.proofs.run_from.Statement.{statement}
+use Rattle.tile.proofs.run_from.Tie as tie
 
 abbrev Inv-loop : tie.InvT-loop
-Inv-loop pattern text n₀ n = n ≤ run pattern text
+Inv-loop pattern text known n₀ n = n ≤ run pattern text
 
 abbrev μ-loop : tie.MeasureT-loop
-μ-loop pattern text n₀ n = length pattern - n
-
-blocks-run-requires : tie.Need-blocks-run-requires Inv-loop μ-loop
-blocks-run-requires c κs = search needs
+μ-loop pattern text known n₀ n = length pattern - n
 
 loop-holds : tie.Need-loop-holds Inv-loop μ-loop
-loop-holds c = search blocks-within
+loop-holds c = search needs
 
 mul-words-match : tie.Need-mul-words-match Inv-loop μ-loop
 mul-words-match c = search needs
@@ -55,13 +51,12 @@ returns-2 c = search (pairs-second, ltb-false)
 returns-3 : tie.Need-returns-3 Inv-loop μ-loop
 returns-3 c = search pairs-first
 
-pub run-length-spec : {M : Type 1} → statement M
-run-length-spec =
+pub run-from-spec : {M : Type 1} → statement M
+run-from-spec =
     tie.close
     (tie.spec
     Inv-loop
     μ-loop
-    blocks-run-requires
     loop-holds
     mul-words-match
     shared-slice-read-words-match
