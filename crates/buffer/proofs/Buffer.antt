@@ -130,3 +130,7 @@ module _ (f : ℕ → ℕ) (n : ℕ) (b₀ b : List ℕ) (k : ℕ) (r : Filling 
       onto-words (tabulate f n) b₀ b (rw count (r .room)) (r .same)
       (λ i l. r .filled i (omega (arith, z)) (rw count at l) ∙ sym (getD-tabulate f n i 0 (rw count at l)))
       (λ i l. r .kept i (rw count at l))
+
+-- The part of a list from a position to its end is the list's tail.
+pub tail-is : (at : ℕ) (xs : List ℕ) → take (length xs - at) (drop at xs) ≡ drop at xs
+tail-is at xs = take-all (length xs - at) (drop at xs) (omega (arith, length-drop at xs))

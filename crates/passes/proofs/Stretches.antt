@@ -13,8 +13,7 @@ use Rattle.symbol.specs.Word.{isCall}
 use Rattle.symbol.proofs.Word.{no-match-left}
 use Rattle.tiling.specs.Run.{run}
 use Rattle.tiling.specs.Tiling.{start}
-use Rattle.tiling.proofs.Run.{run-within}
-use Rattle.tile.proofs.Measure.{run-most}
+use Rattle.tiling.proofs.Run.{run-within, run-most}
 use Rattle.rows.proofs.Pairs.{run-further}
 use Rattle.sweep.specs.Workspace.{state}
 use Rattle.sweep.specs.declared.Job.{Job}

@@ -7,9 +7,9 @@ use mathlib.Core.List.{List}
 use lib.ListN.{length, take, drop, getD, length-drop}
 use lib.Seq.{getD-drop}
 use Rattle.tiling.proofs.Leading.{leading-within}
-use Rattle.tile.specs.Before.{otherThan, before}
-use Rattle.tile.proofs.Before.{before-passes, before-found}
-use Rattle.tile.proofs.Tail.{tail-is}
+use Rattle.measure.specs.Before.{otherThan, before}
+use Rattle.measure.proofs.Before.{before-passes, before-found}
+use Rattle.buffer.proofs.Buffer.{tail-is}
 use Rattle.sweep.specs.First.{First}
 use Rattle.plain.specs.Pair.{SideBySide}
 

@@ -16,7 +16,7 @@ use Rattle.symbol.proofs.Word.{match-equal}
 use Rattle.tiling.specs.Run.{run}
 use Rattle.tiling.proofs.Run.{run-within, run-match}
 use Rattle.tile.specs.declared.TextAt.{TextAt}
-use Rattle.tile.proofs.Tail.{tail-is}
+use Rattle.buffer.proofs.Buffer.{tail-is}
 use Rattle.sweep.specs.Row.{Row, better}
 use Rattle.sweep.specs.First.{First}
 use Rattle.sweep.specs.declared.Found.{Found}

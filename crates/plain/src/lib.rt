@@ -25,7 +25,7 @@ fn next_pair(text: &[u32], from: TextAt, offset: usize, a: u32, b: u32) -> TextA
 {
     let at = from.0;
     let beyond = at + offset;
-    TextAt(at + tile::positions_before(&text[at..], &text[beyond..], a, b))
+    TextAt(at + measure::positions_before(&text[at..], &text[beyond..], a, b))
 }
 
 // The longest run of the row that pattern starts, where it is longer than floor, and the first position on the text that
@@ -43,7 +43,7 @@ fn row_search(pattern: &[u32], text: &[u32], floor: usize) -> Found
     while found.len < pattern.len() && t + found.len < text.len() {
         let offset = found.len;
         let at = next_pair(text, TextAt(t), offset, pattern[0], pattern[offset]).0;
-        let len = tile::measured_run(pattern, &text[at..], offset);
+        let len = measure::measured_run(pattern, &text[at..], offset);
         found = sweep::keep(found, TextAt(at), len);
         t = at + 1;
     }

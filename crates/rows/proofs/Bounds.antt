@@ -17,10 +17,9 @@ use Rattle.symbol.proofs.Word.{no-match-left}
 use Rattle.tiling.specs.Run.{run}
 use Rattle.tiling.specs.Tiling.{State, runAt}
 use Rattle.tiling.proofs.Leading.{leading-cons}
-use Rattle.tiling.proofs.Run.{run-within}
+use Rattle.tiling.proofs.Run.{run-within, run-most}
 use Rattle.tiling.proofs.Best.{past-pattern}
 use Rattle.tile.specs.declared.TextAt.{TextAt}
-use Rattle.tile.proofs.Measure.{run-most}
 use Rattle.sweep.specs.Workspace.{Space, state, boundsFrom, bound}
 use Rattle.sweep.specs.Row.{Greatest}
 use Rattle.sweep.specs.declared.Found.{Found}

@@ -31,7 +31,7 @@ fn longer_at(ws: &[u32], job: Job, p: PatternAt, t: TextAt, best: usize) -> usiz
     let n = job.n;
     let at = n + t.0;
     let end = n + job.m;
-    tile::longer_run(&ws[from..n], &ws[at..end], best)
+    measure::longer_run(&ws[from..n], &ws[at..end], best)
 }
 
 // Whether the windows at a pair of positions have the same hash.

@@ -16,14 +16,13 @@ use Rattle.buffer.specs.Buffer.{onto}
 use Rattle.tiling.specs.Run.{run, mark}
 use Rattle.tiling.specs.Tiling.{Tile, State, runAt, best, Best, Lies, size, lay}
 use Rattle.tiling.specs.Listing.{tileWords, covered}
-use Rattle.tiling.proofs.Run.{zero-left, mark-inside}
+use Rattle.tiling.proofs.Run.{zero-left, mark-inside, run-most}
 use Rattle.tiling.specs.Tally.{tally}
 use Rattle.tiling.specs.Greedy.{Greedy, more}
 use Rattle.tiling.proofs.Best.{best-is, best-only, past-pattern}
 use Rattle.tiling.proofs.Marked.{lay-shrinks}
 use Rattle.tiling.proofs.Tiling.{best-lies, zero-no-call, takes-tile}
 use Rattle.tile.specs.Listed.{listed}
-use Rattle.tile.proofs.Measure.{run-most}
 use Rattle.tiling.proofs.Demand.{covered-append}
 use Rattle.tile.proofs.Tail.{length-listed, listed-more}
 use Rattle.sweep.specs.Workspace.{Space, state, boundsFrom, bound, laid}

@@ -7,9 +7,9 @@ use mathlib.Core.Path.{_≡_, refl}
 use mathlib.Core.Bool.{Bool, true, false}
 use mathlib.Core.List.{List, [], _∷_, _++_, append-assoc, append-nil}
 use lib.ListN.{length, take, drop, set, length-append, length-take, length-drop, drop-of-length-le}
-use lib.Seq.{take-all, take-at, drop-at, drop-drop}
+use lib.Seq.{take-at, drop-at, drop-drop}
 use Rattle.buffer.specs.Buffer.{onto}
-use Rattle.buffer.proofs.Buffer.{length-onto}
+use Rattle.buffer.proofs.Buffer.{length-onto, tail-is}
 use Rattle.tiling.specs.Listing.{Entry, tileWords}
 use Rattle.tile.specs.Listed.{listed}
 
@@ -20,10 +20,7 @@ three-stored a b c (x ∷ []) h = absurd (not-suc-le-zero (le-of-suc-le-suc h))
 three-stored a b c (x ∷ y ∷ []) h = absurd (not-suc-le-zero (le-of-suc-le-suc (le-of-suc-le-suc h)))
 three-stored a b c (x ∷ y ∷ z ∷ xs) h = refl
 
--- The part of a list from a position to its end is the list's tail, and nothing follows it.
-pub tail-is : (at : ℕ) (xs : List ℕ) → take (length xs - at) (drop at xs) ≡ drop at xs
-tail-is at xs = take-all (length xs - at) (drop at xs) (omega (arith, length-drop at xs))
-
+-- Nothing follows the part of a list from a position to its end.
 pub tail-last : (at : ℕ) (xs : List ℕ) → drop (length xs - at) (drop at xs) ≡ []
 tail-last at xs = drop-of-length-le (drop at xs) {i = length xs - at} (omega (arith, length-drop at xs))
 

@@ -1,3 +1,1 @@
-pub mod Before
-pub mod Block
 pub mod Listed

@@ -54,6 +54,14 @@ run-least ps ts n h = go (decLe n (run ps ts))
     go (yes k) = k
     go (no k) = let f : false ≡ true = sym (run-stops ps ts) ∙ h (run ps ts) (omega (arith, k)) in let z : _≡_ {A = ℕ} 0 1 = cc in omega arith
 
+-- It ends where two words do not match, at the latest.
+pub run-most : (ps ts : List ℕ) (i : ℕ) → matches (getD ps i 0) (getD ts i 0) ≡ false → run ps ts ≤ i
+run-most ps ts i e = go (decLe (run ps ts) i)
+  where
+    go : Dec (run ps ts ≤ i) → run ps ts ≤ i
+    go (yes k) = k
+    go (no k) = let f : true ≡ false = sym (run-match ps ts i (omega (arith, k))) ∙ e in let z : _≡_ {A = ℕ} 0 1 = cc in omega arith
+
 -- ---- marking
 pub length-mark : (i n : ℕ) (xs : List ℕ) → length (mark i n xs) ≡ length xs
 unfolding mark

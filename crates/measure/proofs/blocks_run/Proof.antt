@@ -1,4 +1,4 @@
--- `tile::blocks_run` meets its contract: at the head of each turn n words match, in whole blocks, and the loop ends where a
+-- `measure::blocks_run` meets its contract: at the head of each turn n words match, in whole blocks, and the loop ends where a
 -- list has too few words for another block, or at a block that does not match.
 -- Assumes nothing.
 use Prim.Native.Nat.{_-_, _≤_}
@@ -6,11 +6,11 @@ use native.Mathlib.Omega.{arith}
 use lib.ListN.{length}
 use borrow.Author.Tests.{leb-true}
 use Rattle.tiling.specs.Run.{run}
-use Rattle.tile.proofs.Blocks.{Blocks, block-room, blocks-none, blocks-more, blocks-stop}
-use Rattle.tile.proofs.Measure.{pairs-after, short-first, short-second}
+use Rattle.measure.proofs.Blocks.{Blocks, block-room, blocks-none, blocks-more, blocks-stop}
+use Rattle.measure.proofs.Pairs.{pairs-after, short-first, short-second}
 use borrow.Author.Needs.{needs}
-use Rattle.tile.proofs.blocks_run.Statement.{statement}
-use Rattle.tile.proofs.blocks_run.Tie as tie
+use Rattle.measure.proofs.blocks_run.Statement.{statement}
+use Rattle.measure.proofs.blocks_run.Tie as tie
 
 abbrev Inv-loop : tie.InvT-loop
 Inv-loop pattern text n₀ n = Blocks (run pattern text) n × (n ≤ length pattern) × (n ≤ length text)

@@ -1,13 +1,13 @@
--- `tile::block_lacks` meets its contract: at the head of each turn `all` says whether a and b stand side by side at none of the first i positions.
+-- `measure::block_lacks` meets its contract: at the head of each turn `all` says whether a and b stand side by side at none of the first i positions.
 -- Assumes nothing.
 use Prim.Native.Nat.{_-_}
-use Rattle.tile.specs.Before.{before}
-use Rattle.tile.specs.Block.{block}
-use Rattle.tile.proofs.Blocks.{Tested, tested-none, tested-all}
-use Rattle.tile.proofs.Measure.{pairs-tested}
+use Rattle.measure.specs.Before.{before}
+use Rattle.measure.specs.Block.{block}
+use Rattle.measure.proofs.Blocks.{Tested, tested-none, tested-all}
+use Rattle.measure.proofs.Pairs.{pairs-tested}
 use borrow.Author.Needs.{needs}
-use Rattle.tile.proofs.block_lacks.Statement.{statement}
-use Rattle.tile.proofs.block_lacks.Tie as tie
+use Rattle.measure.proofs.block_lacks.Statement.{statement}
+use Rattle.measure.proofs.block_lacks.Tie as tie
 
 abbrev Inv-loop : tie.InvT-loop
 Inv-loop words others a b all₀ i₀ all i = Tested (before a b words others) i all

@@ -1,13 +1,13 @@
--- `tile::run_from` meets its contract: n words match, and the loop ends with a list or at a pair that does not match.
+-- `measure::run_from` meets its contract: n words match, and the loop ends with a list or at a pair that does not match.
 -- Assumes nothing.
 use Prim.Native.Nat.{_-_, _≤_}
 use lib.ListN.{length}
 use borrow.Author.Tests.{ltb-true, ltb-false}
 use Rattle.tiling.specs.Run.{run}
-use Rattle.tile.proofs.Measure.{pairs-more, pairs-stop, pairs-first, pairs-second}
+use Rattle.measure.proofs.Pairs.{pairs-more, pairs-stop, pairs-first, pairs-second}
 use borrow.Author.Needs.{needs}
-use Rattle.tile.proofs.run_from.Statement.{statement}
-use Rattle.tile.proofs.run_from.Tie as tie
+use Rattle.measure.proofs.run_from.Statement.{statement}
+use Rattle.measure.proofs.run_from.Tie as tie
 
 abbrev Inv-loop : tie.InvT-loop
 Inv-loop pattern text known n₀ n = n ≤ run pattern text

@@ -9,7 +9,7 @@ use borrow.Author.Tests.{eq-eqb, eqb-true, not-false}
 use lib.Dec.{eqb}
 use lib.ListN.{length, getD}
 use Rattle.tiling.proofs.Leading.{leading-passes, leading-stops}
-use Rattle.tile.specs.Before.{otherThan, before}
+use Rattle.measure.specs.Before.{otherThan, before}
 
 both-here : (a b x y : ℕ) → x ≡ a → y ≡ b → otherThan a b x y ≡ false
 both-here a b x y p q = rw (eq-eqb x a p, eq-eqb y b q) refl

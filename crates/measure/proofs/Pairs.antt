@@ -1,23 +1,19 @@
--- Measuring a run, and what is counted like it: pairs of words that pass a test one after another.
+-- Pairs of words that pass a test one after another, as the words of a run do: they are counted one by one, or block by block.
 -- Assumes nothing.
-use Prim.Native.Nat.{ℕ, _+_, _-_, _≤_, _<_, max, min}
-use native.Mathlib.Decide.{decLe}
+use Prim.Native.Nat.{ℕ, _+_, _-_, _≤_, _<_, min}
 use native.Mathlib.Omega.{arith}
-use mathlib.Core.Path.{_≡_, sym, _∙_}
-use mathlib.Core.Bool.{Bool, true, false, not, _&&_}
+use mathlib.Core.Path.{_≡_}
+use mathlib.Core.Bool.{Bool, true, false, _&&_}
 use mathlib.Core.List.{List}
-use borrow.Author.Tests.{not-true, leb-false}
+use borrow.Author.Tests.{leb-false}
 use lib.Dec.{leb}
 use lib.ListN.{length, take, drop, getD}
-use Rattle.symbol.specs.Word.{matches}
-use Rattle.tiling.specs.Run.{leading, run}
+use Rattle.tiling.specs.Run.{leading}
 use Rattle.tiling.proofs.Leading.{leading-within, leading-passes, leading-stops, leading-after}
-use Rattle.tiling.proofs.Run.{run-within, run-match}
-use Rattle.tile.specs.Block.{block, wholeBlocks}
-use Rattle.tile.proofs.Blocks.{Counts, counts-more, counts-stop, Tested, tested-more, Blocks, blocks-end}
-use Rattle.tile.proofs.Tail.{tail-is}
+use Rattle.measure.specs.Block.{block, wholeBlocks}
+use Rattle.measure.proofs.Blocks.{Counts, counts-more, counts-stop, Tested, tested-more, Blocks, blocks-end}
+use Rattle.buffer.proofs.Buffer.{tail-is}
 
--- ---- pairs that pass a test
 module _ (test : ℕ → ℕ → Bool) (xs ys : List ℕ) where
   counted : Counts (λ i. test (getD xs i 0) (getD ys i 0)) (min (length xs) (length ys)) (leading test xs ys)
   counted = record { within = leading-within test xs ys; holds = leading-passes test xs ys; stops = leading-stops test xs ys }
@@ -49,22 +45,3 @@ module _ (test : ℕ → ℕ → Bool) (xs ys : List ℕ) where
 
     pub pairs-after : n ≤ leading test xs ys → leading test xs ys ≡ n + leading test (take (length xs - n) (drop n xs)) (take (length ys - n) (drop n ys))
     pairs-after h = rw (tail-is n xs, tail-is n ys) (leading-after test n xs ys h)
-
--- ---- a run
--- It ends where two words do not match, at the latest.
-pub run-most : (ps ts : List ℕ) (i : ℕ) → matches (getD ps i 0) (getD ts i 0) ≡ false → run ps ts ≤ i
-run-most ps ts i e = go (decLe (run ps ts) i)
-  where
-    go : Dec (run ps ts ≤ i) → run ps ts ≤ i
-    go (yes k) = k
-    go (no k) = let f : true ≡ false = sym (run-match ps ts i (omega (arith, k))) ∙ e in let z : _≡_ {A = ℕ} 0 1 = cc in omega arith
-
--- ---- the returns of longer_run
-pub longer-pattern : (ps ts : List ℕ) (best : ℕ) → length ps ≤ best → best ≡ max best (run ps ts)
-longer-pattern ps ts best h = omega (arith, run-within ps ts)
-
-pub longer-text : (ps ts : List ℕ) (best : ℕ) → length ts ≤ best → best ≡ max best (run ps ts)
-longer-text ps ts best h = omega (arith, run-within ps ts)
-
-pub longer-stop : (ps ts : List ℕ) (best : ℕ) (r : Bool) → r ≡ matches (getD ps best 0) (getD ts best 0) → not r ≡ true → best ≡ max best (run ps ts)
-longer-stop ps ts best r e f = omega (arith, run-most ps ts best (sym e ∙ not-true r f))

@@ -1,13 +1,13 @@
--- `tile::block_matches` meets its contract: at the head of each turn `all` says whether the first i words match.
+-- `measure::block_matches` meets its contract: at the head of each turn `all` says whether the first i words match.
 -- Assumes nothing.
 use Prim.Native.Nat.{_-_}
 use Rattle.tiling.specs.Run.{run}
-use Rattle.tile.specs.Block.{block}
-use Rattle.tile.proofs.Blocks.{Tested, tested-none, tested-all}
-use Rattle.tile.proofs.Measure.{pairs-tested}
+use Rattle.measure.specs.Block.{block}
+use Rattle.measure.proofs.Blocks.{Tested, tested-none, tested-all}
+use Rattle.measure.proofs.Pairs.{pairs-tested}
 use borrow.Author.Needs.{needs}
-use Rattle.tile.proofs.block_matches.Statement.{statement}
-use Rattle.tile.proofs.block_matches.Tie as tie
+use Rattle.measure.proofs.block_matches.Statement.{statement}
+use Rattle.measure.proofs.block_matches.Tie as tie
 
 abbrev Inv-loop : tie.InvT-loop
 Inv-loop pattern text all₀ i₀ all i = Tested (run pattern text) i all

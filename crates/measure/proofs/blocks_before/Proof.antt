@@ -1,16 +1,16 @@
--- `tile::blocks_before` meets its contract: at the head of each turn n positions are passed, in whole blocks, and the loop ends
+-- `measure::blocks_before` meets its contract: at the head of each turn n positions are passed, in whole blocks, and the loop ends
 -- where a list has too few words for another block, or at a block that has a and b side by side.
 -- Assumes nothing.
 use Prim.Native.Nat.{_-_, _≤_}
 use native.Mathlib.Omega.{arith}
 use lib.ListN.{length}
 use borrow.Author.Tests.{leb-true}
-use Rattle.tile.specs.Before.{before}
-use Rattle.tile.proofs.Blocks.{Blocks, block-room, blocks-none, blocks-more, blocks-stop}
-use Rattle.tile.proofs.Measure.{pairs-after, short-first, short-second}
+use Rattle.measure.specs.Before.{before}
+use Rattle.measure.proofs.Blocks.{Blocks, block-room, blocks-none, blocks-more, blocks-stop}
+use Rattle.measure.proofs.Pairs.{pairs-after, short-first, short-second}
 use borrow.Author.Needs.{needs}
-use Rattle.tile.proofs.blocks_before.Statement.{statement}
-use Rattle.tile.proofs.blocks_before.Tie as tie
+use Rattle.measure.proofs.blocks_before.Statement.{statement}
+use Rattle.measure.proofs.blocks_before.Tie as tie
 
 abbrev Inv-loop : tie.InvT-loop
 Inv-loop words others a b n₀ n = Blocks (before a b words others) n × (n ≤ length words) × (n ≤ length others)

@@ -1,10 +1,10 @@
--- `tile::longer_run` meets its contract: a run is no longer than either list, and no longer than best where the words at offset best do not
+-- `measure::longer_run` meets its contract: a run is no longer than either list, and no longer than best where the words at offset best do not
 -- match; in each of these cases best is the greater.
 -- Assumes nothing.
-use Rattle.tile.proofs.Measure.{longer-pattern, longer-text, longer-stop}
+use Rattle.measure.proofs.Longer.{longer-pattern, longer-text, longer-stop}
 use borrow.Author.Needs.{needs}
-use Rattle.tile.proofs.longer_run.Statement.{statement}
-use Rattle.tile.proofs.longer_run.Tie as tie
+use Rattle.measure.proofs.longer_run.Statement.{statement}
+use Rattle.measure.proofs.longer_run.Tie as tie
 
 returns : tie.Need-returns
 returns c = search longer-pattern

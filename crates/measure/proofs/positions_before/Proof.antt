@@ -1,14 +1,14 @@
--- `tile::positions_before` meets its contract: n positions are passed, first in whole blocks, and the loop ends with a list or at a and b.
+-- `measure::positions_before` meets its contract: n positions are passed, first in whole blocks, and the loop ends with a list or at a and b.
 -- Assumes nothing.
 use Prim.Native.Nat.{_-_, _≤_}
 use lib.ListN.{length}
 use borrow.Author.Tests.{ltb-true, ltb-false}
-use Rattle.tile.specs.Before.{before}
-use Rattle.tile.proofs.Blocks.{blocks-within}
-use Rattle.tile.proofs.Measure.{pairs-more, pairs-stop, pairs-first, pairs-second}
+use Rattle.measure.specs.Before.{before}
+use Rattle.measure.proofs.Blocks.{blocks-within}
+use Rattle.measure.proofs.Pairs.{pairs-more, pairs-stop, pairs-first, pairs-second}
 use borrow.Author.Needs.{needs}
-use Rattle.tile.proofs.positions_before.Statement.{statement}
-use Rattle.tile.proofs.positions_before.Tie as tie
+use Rattle.measure.proofs.positions_before.Statement.{statement}
+use Rattle.measure.proofs.positions_before.Tie as tie
 
 abbrev Inv-loop : tie.InvT-loop
 Inv-loop words others a b n₀ n = n ≤ before a b words others

@@ -11,8 +11,8 @@ use borrow.Author.Tests.{le-leb, leb-true, leb-false}
 use lib.Dec.{leb}
 use lib.ListN.{length, take, drop, length-drop}
 use Rattle.symbol.proofs.Word.{and-both, and-left, and-right, same}
-use Rattle.tile.specs.Block.{block, wholeBlocks}
-use Rattle.tile.proofs.Tail.{tail-is}
+use Rattle.measure.specs.Block.{block, wholeBlocks}
+use Rattle.buffer.proofs.Buffer.{tail-is}
 
 -- l is the count.
 pub record Counts (test : ℕ → Bool) (end l : ℕ) : Type 0 where
