@@ -1,6 +1,7 @@
 //! Comparisons by both engines: each answer, each word of the tile buffer and each word of the
 //! workspace, which is dirty before.
 
+pub mod breaks;
 pub mod exchange;
 pub mod laws;
 pub mod limits;

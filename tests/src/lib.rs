@@ -12,6 +12,7 @@ pub mod group;
 pub mod hashes;
 pub mod known;
 pub mod library;
+pub mod machine;
 pub mod pairs;
 pub mod process;
 pub mod program;

@@ -8,7 +8,22 @@ use crate::samples::{
 };
 use sigxume::raw;
 
-/// Words around each boundary of a kind and of a field, with the unsound words of the samples.
+/// The first and the last word of each kind, of the calls and of what is next to them.
+const ENDS: [u32; 11] = [
+    0,
+    0x3FFF_FFFF,
+    0x4000_0000,
+    0x4000_FFFF,
+    0x4001_0000,
+    0x4001_FFFF,
+    0x7FFF_FFFF,
+    0x8000_0000,
+    0x8000_0001,
+    0xC000_0000,
+    0xFFFF_FFFF,
+];
+
+/// Words around each boundary of a kind and of a field, with these ends and the unsound words of the samples.
 fn boundary_words() -> Vec<u32> {
     let boundaries: [u32; 13] = [
         0,
@@ -27,6 +42,7 @@ fn boundary_words() -> Vec<u32> {
     ];
     let around = |at: u32| [at.wrapping_sub(1), at, at + 1];
     let mut words: Vec<u32> = boundaries.into_iter().flat_map(around).collect();
+    words.extend(ENDS);
     words.extend(UNSOUND_WORDS);
     words
 }
@@ -83,6 +99,20 @@ pub fn match_random(g: &mut Group) {
             1 => a ^ g.random.bit(),
             _ => a,
         };
+        compare_match(g, a, b);
+    }
+}
+
+/// Millions of pairs that differ in up to three bits, so that many match and the others nearly do.
+pub fn match_few_bits(g: &mut Group) {
+    for _ in 0..3_000_000 {
+        let random = &mut g.random;
+        let a = match random.below(4) {
+            0 => random.word(),
+            1 => random.pick(&ENDS),
+            _ => any_word(random),
+        };
+        let b = (0..random.below(4)).fold(a, |word, _| word ^ random.bit());
         compare_match(g, a, b);
     }
 }

@@ -3,14 +3,18 @@
 //! name, its number of cases and its seed; a difference makes the exit status 1. Arguments are parts of
 //! names: only the groups with one of them are then run.
 
-use sigxume_tests::comparisons::{self, exchange, laws, limits, mistakes, restarts, settings};
+use sigxume_tests::comparisons::{
+    self, breaks, exchange, laws, limits, mistakes, restarts, settings,
+};
 use sigxume_tests::cover;
 use sigxume_tests::group::Group;
 use sigxume_tests::tool::{
     self, bad_lines, bad_records, compare, curves, json, matrix, matrix_bad, matrix_large,
     matrix_mirror, options, output, plot, progress, round_trips, usage,
 };
-use sigxume_tests::{baselines, documents, hashes, known, library, program, records, stack, words};
+use sigxume_tests::{
+    baselines, documents, hashes, known, library, machine, program, records, stack, words,
+};
 use std::process::ExitCode;
 use std::thread;
 
@@ -27,6 +31,9 @@ const GROUPS: &[Row] = &[
     ("match: boundary words", 4, words::match_boundaries),
     ("match: every code", 5, words::match_codes),
     ("match: random pairs", 6, words::match_random),
+    ("match: few bits apart", 120, words::match_few_bits),
+    ("match: source", 121, machine::source),
+    ("match: machine code", 122, machine::code),
     ("sound: single words", 7, words::sound_words),
     ("sound: sequences", 8, words::sound_sequences),
     ("record: worked example", 9, records::worked),
@@ -53,6 +60,8 @@ const GROUPS: &[Row] = &[
     ("compare: remainders", 30, mistakes::remainders),
     ("compare: ties", 31, mistakes::ties),
     ("compare: early ends", 32, mistakes::early_ends),
+    ("compare: broken stretches", 123, breaks::breaks),
+    ("compare: ends of a run", 124, breaks::ends_of_a_run),
     ("compare: covered in full", 33, mistakes::in_full),
     ("compare: every small pair", 34, comparisons::small),
     ("compare: random pairs", 35, comparisons::random),
