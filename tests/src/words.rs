@@ -44,6 +44,8 @@ fn boundary_words() -> Vec<u32> {
     let mut words: Vec<u32> = boundaries.into_iter().flat_map(around).collect();
     words.extend(ENDS);
     words.extend(UNSOUND_WORDS);
+    words.sort_unstable();
+    words.dedup();
     words
 }
 
