@@ -24,10 +24,6 @@ use Rattle.plain.specs.Pair.{SideBySide}
 use Rattle.sweep.proofs.Row.{better-new, better-old}
 
 -- ---- a row
--- What the loop's test says of the next word's place.
-pub in-reach : (i n : ℕ) → ltb i n ≡ true → i ≤ n
-in-reach i n e = omega (arith, ltb-true i n e)
-
 pub record Seen (ps ts : List ℕ) (floor t : ℕ) (f : Found) : Type 0 where
   pub short-pattern : length ps ≤ 2048
   pub short-text : length ts ≤ 2048

@@ -18,13 +18,16 @@ ghost use Rattle.plain.specs.Bounds.{LongestRuns};
 ghost use Rattle.plain.specs.Pair.{SideBySide};
 
 // The first position of the text from `from` on that has a, with b offset words further on; else the end of those that have a
-// word so far on.
+// word so far on. With few codes it is often `from` itself.
 fn next_pair(text: &[u32], from: TextAt, offset: usize, a: u32, b: u32) -> TextAt
-    requires { ⌜ from .0 + offset ≤ length (now text) ⌝ }
+    requires { ⌜ from .0 + offset < length (now text) ⌝ }
     ensures { λ r. ⌜ First (SideBySide (now (text .entry)) offset a b) (from .0) (length (now (text .entry)) - offset) (r .0) ⌝ }
 {
     let at = from.0;
     let beyond = at + offset;
+    if (text[at] == a) & (text[beyond] == b) {
+        return from;
+    }
     TextAt(at + measure::positions_before(&text[at..], &text[beyond..], a, b))
 }
 

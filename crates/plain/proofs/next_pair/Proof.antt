@@ -1,13 +1,28 @@
--- `plain::next_pair` meets its contract: the positions of what is left of the text that lack either word are passed.
+-- `plain::next_pair` meets its contract: the words stand at once, or the positions of what is left of the text that lack either are passed.
 -- Assumes nothing.
 use native.Mathlib.Omega.{arith}
-use Rattle.plain.proofs.Next.{next-within, next-first}
+use Rattle.plain.proofs.Next.{next-here, next-within, next-first}
 use borrow.Author.Needs.{needs}
 use Rattle.plain.proofs.next_pair.Statement.{statement}
 use Rattle.plain.proofs.next_pair.Tie as tie
 
 add-beyond : tie.Need-add-beyond
 add-beyond c = search needs
+
+mul-if1 : tie.Need-mul-if1
+mul-if1 c = search needs
+
+shared-slice-read-if1 : tie.Need-shared-slice-read-if1
+shared-slice-read-if1 c = search needs
+
+mul-if1-2 : tie.Need-mul-if1-2
+mul-if1-2 c = search needs
+
+shared-slice-read-if1-2 : tie.Need-shared-slice-read-if1-2
+shared-slice-read-if1-2 c = search needs
+
+returns : tie.Need-returns
+returns c = search next-here
 
 mul-positions-before : tie.Need-mul-positions-before
 mul-positions-before c = search needs
@@ -36,14 +51,14 @@ part-positions-before-end-2 c = search needs
 positions-before-requires : tie.Need-positions-before-requires
 positions-before-requires c κs = search needs
 
-add-t19 : tie.Need-add-t19
-add-t19 c =
-    let s = c .before .before .before .before in
+add-t26 : tie.Need-add-t26
+add-t26 c =
+    let s = c .before .before .before .before .before .before .before in
     record { fits = omega (arith, next-within (s .args .text .now) (s .args .from .0) (s .args .offset) (s .args .a) (s .args .b) (c .positions-before .result) (s .pre) (c .positions-before .ensures)) }
 
-returns : tie.Need-returns
-returns c =
-    let s = c .before .before .before .before in
+returns-2 : tie.Need-returns-2
+returns-2 c =
+    let s = c .before .before .before .before .before .before .before in
     next-first (s .args .text .now) (s .args .from .0) (s .args .offset) (s .args .a) (s .args .b) (c .positions-before .result) (s .pre) (c .positions-before .ensures)
 
 pub next-pair-spec : {M : Type 1} → statement M
@@ -51,6 +66,11 @@ next-pair-spec =
     tie.close
     (tie.spec
     add-beyond
+    mul-if1
+    shared-slice-read-if1
+    mul-if1-2
+    shared-slice-read-if1-2
+    returns
     mul-positions-before
     sub-positions-before
     part-positions-before-start
@@ -60,5 +80,5 @@ next-pair-spec =
     part-positions-before-start-2
     part-positions-before-end-2
     positions-before-requires
-    add-t19
-    returns)
+    add-t26
+    returns-2)

@@ -3,7 +3,7 @@
 use Prim.Native.Nat.{_+_, _-_}
 use borrow.Author.Tests.{ltb-true, ltb-false}
 use lib.ListN.{length}
-use Rattle.plain.proofs.Scan.{Seen, in-reach, seen-none, seen-more, seen-pattern, seen-text}
+use Rattle.plain.proofs.Scan.{Seen, seen-none, seen-more, seen-pattern, seen-text}
 use borrow.Author.Needs.{needs}
 use Rattle.plain.proofs.row_search.Statement.{statement}
 use Rattle.plain.proofs.row_search.Tie as tie
@@ -30,7 +30,7 @@ shared-slice-read-next-pair-2 : tie.Need-shared-slice-read-next-pair-2 Inv-loop 
 shared-slice-read-next-pair-2 c = search needs
 
 next-pair-requires : tie.Need-next-pair-requires Inv-loop μ-loop
-next-pair-requires c κs = search in-reach
+next-pair-requires c κs = search ltb-true
 
 mul-measured-run : tie.Need-mul-measured-run Inv-loop μ-loop
 mul-measured-run c = search needs
