@@ -218,7 +218,7 @@ static inline const char *sigxume_reason(uint32_t refusal)
 }
 
 /* Whether two words match: both are calls with equal codes. Any two words may be given; a call matches itself, and no
- * other word matches anything. */
+ * other word matches anything. It is decided without a branch, by the same few instructions for all words. */
 bool sigxume_match(uint32_t a, uint32_t b);
 
 /* Whether each word is a call or the no-call. There may be any number of them; of none it is true. */

@@ -55,7 +55,8 @@ impl From<Symbol> for u32 {
     }
 }
 
-/// Whether two words match: both are calls with equal codes. Any two words may be given.
+/// Whether two words match: both are calls with equal codes. Any two words may be given. It is decided without a branch,
+/// by the same few instructions for all words.
 ///
 /// ```
 /// use sigxume::{words_match, Symbol};

@@ -15,7 +15,7 @@ ghost use Rattle.plain.specs.Promise.{Plain};
 ghost use Rattle.search.specs.Promise.{Fast};
 ghost use Rattle.cover.specs.Promise.{EveryMinimum};
 
-// Whether two words match: both are calls with equal codes.
+// Whether two words match: both are calls with equal codes. It is decided without a branch.
 #[no_mangle]
 pub extern "C" fn sigxume_match(a: u32, b: u32) -> bool
     ensures { λ r. ⌜ r ≡ matches a b ⌝ }
