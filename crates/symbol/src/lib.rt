@@ -29,7 +29,7 @@ fn is_sound(w: u32) -> bool
 pub fn words_match(a: u32, b: u32) -> bool
     ensures { λ r. ⌜ r ≡ matches a b ⌝ }
 {
-    (a ^ b) | (a / 0x1_0000 ^ 0x4000) == 0
+    ((a ^ b) | (a / 0x1_0000 ^ 0x4000)) == 0
 }
 
 // Whether each word may stand in a sequence. Every word is looked at, so that the compiler can take several at once.
