@@ -1,12 +1,13 @@
 -- The pairs K1 to K11 and the windows K12 of 01 as one list of cases, and the test that each comes out as written. The cases after them
 -- are ours: the shifts of 01's worked example, a pair that would come out otherwise if the text were not marked, pairs of equal length,
--- in which the words choose the pattern, and choices by themselves.
+-- in which the words choose the pattern, choices by themselves, and matches of words at the ends of each kind.
 use Prim.Native.Nat.{ℕ, _+_, _^_}
 use mathlib.Core.Bool.{Bool, true, false, not, _&&_}
 use mathlib.Core.List.{List, [], _∷_}
 use lib.Dec.{eqb}
 use lib.IntN.{ℤ, pos, negsuc, negℤ}
 use lib.ListN.{length}
+use Rattle.symbol.specs.Word.{matches}
 use Rattle.window.specs.HashList.{hashes}
 use Rattle.tiling.specs.Choice.{firstIsPattern}
 use Rattle.tiling.specs.Listing.{Entry, listing, tileWords, covered, score, shift}
@@ -31,12 +32,13 @@ abbrev pub no-call : ℕ
 no-call = 2 ^ 31
 
 -- A pair with its minimum: the words of its tile buffer, covered and score, or the shifts of its tiles. Words with a multiplier and a
--- window length: the hashes of their windows. A pair: whether its first sequence is the pattern.
+-- window length: the hashes of their windows. A pair: whether its first sequence is the pattern. Two words: whether they match.
 pub data Case : Type 0 where
   pair : (first second : List ℕ) (minimum : ℕ) (tiles : List ℕ) (covered score : ℕ) → Case
   moved : (first second : List ℕ) (minimum : ℕ) (shifts : List ℤ) → Case
   hashed : (multiplier window : ℕ) (words found : List ℕ) → Case
   chosen : (first second : List ℕ) (first-is-pattern : Bool) → Case
+  matched : (x y : ℕ) (they-match : Bool) → Case
 
 unfoldable pub same : List ℕ → List ℕ → Bool
 same [] [] = true
@@ -65,6 +67,8 @@ holds (moved first second minimum shifts) = shifted (listing first second minimu
 holds (hashed multiplier window words found) = same (hashes multiplier window words) found
 holds (chosen first second true) = firstIsPattern first second
 holds (chosen first second false) = not (firstIsPattern first second)
+holds (matched x y true) = matches x y
+holds (matched x y false) = not (matches x y)
 
 unfoldable pub all-hold : List Case → Bool
 all-hold [] = true
@@ -107,4 +111,15 @@ cases =
     ∷ chosen (a ∷ c ∷ a ∷ []) (a ∷ b ∷ b ∷ []) false  -- the first difference counts, not the last
     ∷ chosen (a ∷ no-call ∷ []) (a ∷ no-call ∷ []) true  -- none differs: the first
     ∷ chosen (c ∷ []) (a ∷ b ∷ []) true  -- the shorter one, whatever its words
+    ∷ matched 0x4000_0000 0x4000_0000 true  -- the calls of the first and of the last code
+    ∷ matched 0x4000_ffff 0x4000_ffff true
+    ∷ matched 0x4000_0000 0x4000_ffff false
+    ∷ matched 0x4001_0001 0x4001_0001 false  -- bits 29 to 16 of a call are zero
+    ∷ matched 0x4000_0001 0x4001_0001 false
+    ∷ matched 0x7fff_ffff 0x7fff_ffff false
+    ∷ matched 0x8000_0000 0x8000_0000 false  -- two no-calls
+    ∷ matched 0x3fff_ffff 0x3fff_ffff false  -- the words of another kind on either side
+    ∷ matched 0x8000_0001 0x8000_0001 false
+    ∷ matched 0xffff_ffff 0xffff_ffff false
+    ∷ matched 0 0 false  -- two marked words
     ∷ []
