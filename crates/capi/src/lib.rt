@@ -6,7 +6,7 @@ use symbol::Counted;
 use tiling::Compared;
 ghost use mathlib.Core.Path.{_≡_};
 ghost use lib.ListN.{length};
-ghost use Rattle.symbol.specs.Word.{matches};
+ghost use Rattle.symbol.specs.Word.{replaced, matches};
 ghost use Rattle.symbol.specs.Sequence.{allSound};
 ghost use Rattle.record.specs.Reading.{readAnswer, readBuffer};
 ghost use Rattle.record.specs.Writing.{writeAnswer, writeBuffer};
@@ -15,7 +15,17 @@ ghost use Rattle.plain.specs.Promise.{Plain};
 ghost use Rattle.search.specs.Promise.{Fast};
 ghost use Rattle.cover.specs.Promise.{EveryMinimum};
 
-// Whether two words match: both are calls with equal codes. It is decided without a branch.
+// The word as it is compared and hashed: a call of a retired code, 65,000 to 65,015, becomes a call of the code that this stands
+// for, and any other word is itself.
+#[no_mangle]
+pub extern "C" fn sigxume_replaced(word: u32) -> u32
+    ensures { λ r. ⌜ r ≡ replaced word ⌝ }
+{
+    symbol::replaced(word)
+}
+
+// Whether two words match: both are calls, and their codes are equal once retired ones are replaced. It is decided without a
+// branch.
 #[no_mangle]
 pub extern "C" fn sigxume_match(a: u32, b: u32) -> bool
     ensures { λ r. ⌜ r ≡ matches a b ⌝ }
@@ -49,7 +59,8 @@ pub extern "C" fn sigxume_write(id: u16, sequence: &[u32], buffer: &mut [u32]) -
     record::write(id, sequence, buffer)
 }
 
-// Fills the start of buffer with the hash of each window, for a multiplier and a window length. Refused: 1, 2, 5, 11.
+// Fills the start of buffer with the hash of each window, of replaced words, for a multiplier and a window length. Refused: 1, 2,
+// 5, 11.
 #[no_mangle]
 pub extern "C" fn sigxume_hash_list(
     words: &[u32],

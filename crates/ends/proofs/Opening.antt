@@ -1,18 +1,21 @@
--- From two sequences to the listing of their tiles. Pattern and text are copied to the start of the workspace, so the first state is
--- theirs; nothing as long as the minimum is left at the end, so what was laid is what the greedy choice lays, and that is the tiling.
+-- From two sequences to the listing of their tiles. Pattern and text are copied to the start of the workspace, their words replaced, so the
+-- first state is theirs but for retired calls; nothing as long as the minimum is left at the end, so what was laid is what the greedy choice
+-- lays, and that is the tiling, of the replaced words and so of the words.
 -- Assumes nothing.
-use Prim.Native.Nat.{ℕ, _+_, _-_, _≤_, min}
+use Prim.Native.Nat.{ℕ, _+_, _-_, _≤_, _<_, min}
 use native.Mathlib.Nat.{mul-le-mul-left, mul-one}
 use native.Mathlib.Omega.{arith}
 use mathlib.Core.Path.{_≡_, refl, sym, _∙_, ap, subst}
 use mathlib.Core.Bool.{Bool, true, false}
 use mathlib.Core.List.{List, [], _++_, map, append-assoc, append-nil}
-use lib.ListN.{length, take, drop, length-take, length-map}
+use lib.ListN.{length, take, drop, getD, set, length-take, length-map}
 use lib.Seq.{take-at, drop-at}
-use Rattle.symbol.specs.Word.{isCall}
+use Rattle.symbol.specs.Word.{isCall, replaced}
+use Rattle.symbol.specs.Sequence.{noneRetired}
+use Rattle.symbol.proofs.Sequence.{getD-replaced, none-current}
 use Rattle.buffer.specs.Buffer.{onto}
-use Rattle.buffer.proofs.Buffer.{onto-part}
-use Rattle.tiling.specs.Tiling.{start, best, size, lay, tiling}
+use Rattle.buffer.proofs.Buffer.{onto-part, Copied, copied-none, copied-more, copied-all}
+use Rattle.tiling.specs.Tiling.{start, best, size, lay, tiling, replacedIn, AllCurrent}
 use Rattle.tiling.specs.Greedy.{Greedy, done}
 use Rattle.tiling.specs.Comparing.{Comparable, Roomy}
 use Rattle.tiling.specs.Choice.{firstIsPattern}
@@ -21,6 +24,7 @@ use Rattle.tiling.proofs.Tally.{tally-length}
 use Rattle.tiling.proofs.Greedy.{only}
 use Rattle.tiling.proofs.Choice.{first-shorter, second-shorter}
 use Rattle.tiling.proofs.Tiling.{tiling-greedy}
+use Rattle.tiling.proofs.Replaced.{tiling-replaced, current-start}
 use Rattle.tile.specs.Listed.{listed}
 use Rattle.sweep.specs.Workspace.{state}
 use Rattle.sweep.specs.Progress.{Fits, Laid, Finished}
@@ -30,20 +34,33 @@ use Rattle.ends.specs.Ends.{patternOf, textOf, Opened, noTiles}
 use Rattle.ends.specs.Result.{Listed}
 
 -- ---- copying in
-pub copied-in : (pattern text ws ws₁ part : List ℕ) → ws₁ ≡ onto pattern ws → part ≡ onto text (take (length pattern + length text - length pattern) (drop (length pattern) ws₁)) → take (length pattern) ws₁ ++ (part ++ drop (length pattern + length text - length pattern) (drop (length pattern) ws₁)) ≡ onto (pattern ++ text) ws
+pub copied-in : (pattern text ws ws₁ part : List ℕ) → ws₁ ≡ onto (map replaced pattern) ws → part ≡ onto (map replaced text) (take (length pattern + length text - length pattern) (drop (length pattern) ws₁)) → take (length pattern) ws₁ ++ (part ++ drop (length pattern + length text - length pattern) (drop (length pattern) ws₁)) ≡ onto (map replaced pattern ++ map replaced text) ws
 copied-in pattern text ws ws₁ part e k =
-    let n : length pattern + length text - length pattern ≡ length text = omega arith in
-    rw (k, n, e) (onto-part pattern text ws (length pattern) refl)
+    let n : length pattern + length text - length pattern ≡ length (map replaced text) = omega (arith, length-map text replaced) in
+    rw (k, n, e) (onto-part (map replaced pattern) (map replaced text) ws (length pattern) (length-map pattern replaced))
+
+-- Words without a retired call are their own replacements; others are replaced one by one.
+pub copied-same : (words b b' : List ℕ) (r : Bool) → r ≡ noneRetired words → r ≡ true → b' ≡ onto words b → b' ≡ onto (map replaced words) b
+copied-same words b b' r e t k = rw (none-current words (sym e ∙ t)) k
+
+pub copied-start : (words b : List ℕ) → length words ≤ length b → Copied (map replaced words) b b 0
+copied-start words b h = copied-none (map replaced words) b (rw (length-map words replaced) h)
+
+pub copied-word : (words b₀ b : List ℕ) (i w : ℕ) → Copied (map replaced words) b₀ b i → i < length words → w ≡ replaced (getD words i 0) → Copied (map replaced words) b₀ (set b i w) (i + 1)
+copied-word words b₀ b i w r h e = rw (e, ← getD-replaced words i) (copied-more (map replaced words) b₀ b i r (rw (length-map words replaced) h))
+
+pub copied-whole : (words b₀ b : List ℕ) (i : ℕ) → Copied (map replaced words) b₀ b i → length words ≤ i → b ≡ onto (map replaced words) b₀
+copied-whole words b₀ b i r h = copied-all (map replaced words) b₀ b i r (rw (length-map words replaced) h)
 
 -- ---- which sequence is the pattern
 module _ (first second : List ℕ) (minimum : ℕ) (b : Bool) (e : b ≡ firstIsPattern first second) (ws ws' : List ℕ) where
-  pub opened-first : b ≡ true → ws' ≡ onto (first ++ second) ws → Opened first second minimum ws (record { n = length first; m = length second; minimum = minimum; straight = true }) ws'
+  pub opened-first : b ≡ true → ws' ≡ onto (map replaced first ++ map replaced second) ws → Opened first second minimum ws (record { n = length first; m = length second; minimum = minimum; straight = true }) ws'
   unfolding patternOf textOf
   opened-first k c =
       let is : firstIsPattern first second ≡ true = sym e ∙ k in
       record { job = rw (patternOf, textOf, is) refl; copied = rw (patternOf, textOf, is) c }
 
-  pub opened-second : b ≡ false → ws' ≡ onto (second ++ first) ws → Opened first second minimum ws (record { n = length second; m = length first; minimum = minimum; straight = false }) ws'
+  pub opened-second : b ≡ false → ws' ≡ onto (map replaced second ++ map replaced first) ws → Opened first second minimum ws (record { n = length second; m = length first; minimum = minimum; straight = false }) ws'
   unfolding patternOf textOf
   opened-second k c =
       let is : firstIsPattern first second ≡ false = sym e ∙ k in
@@ -73,7 +90,7 @@ module _ (first second : List ℕ) where
       go false e = rw (listing, patternOf, textOf, e) refl
 
 -- ---- the start
--- The first state is that of the two sequences.
+-- The state of a workspace that begins with two sequences.
 copied-state : (pattern text : List ℕ) (j : Job) → j .n ≡ length pattern → j .m ≡ length text → (ws : List ℕ) → state j (onto (pattern ++ text) ws) ≡ start pattern text
 copied-state pattern text j n m ws = λ i. record { pattern = on-pattern i; text = on-text i }
   where
@@ -100,13 +117,23 @@ module _ (first second : List ℕ) (minimum : ℕ) (ws b : List ℕ) (c : Compar
   open-room = omega (arith, room .work-room)
 
   module _ (j : Job) (ws₁ : List ℕ) (o : Opened first second minimum ws j ws₁) where
+    -- The comparison starts from the replaced words.
+    first-state : state j ws₁ ≡ replacedIn (start pattern text)
+    first-state =
+        ap (state j) (o .copied)
+        ∙ copied-state (map replaced pattern) (map replaced text) j
+        (ap (λ x. x .n) (o .job) ∙ sym (length-map pattern replaced))
+        (ap (λ x. x .m) (o .job) ∙ sym (length-map text replaced))
+        ws
+
     -- Nothing is laid, so everything fits.
     pub opened-fits : length ws₁ ≡ length ws → Fits j ws₁ b noTiles
     opened-fits same =
         let l = chosen-lengths first second in
+        let current : AllCurrent (state j ws₁) = subst AllCurrent (sym first-state) (current-start pattern text) in
         rw (o .job)
         (record {
-          space = record { short-pattern = omega (arith, l .shorter, c .first-short); short-text = omega (arith, l .shorter, l .together, c .first-short, c .second-short); roomy = omega (arith, l .together, room .work-room, same) };
+          space = record { short-pattern = omega (arith, l .shorter, c .first-short); short-text = omega (arith, l .shorter, l .together, c .first-short, c .second-short); roomy = omega (arith, l .together, room .work-room, same); current = rw (o .job) at current };
           least = c .least;
           most = c .most;
           tile-room = rw (l .shorter) (room .tile-room);
@@ -114,11 +141,8 @@ module _ (first second : List ℕ) (minimum : ℕ) (ws b : List ℕ) (c : Compar
           free = omega (arith, tally-length isCall (take (length pattern) ws₁), length-take (length pattern) ws₁);
         })
 
-    first-state : state j ws₁ ≡ start pattern text
-    first-state = ap (state j) (o .copied) ∙ copied-state pattern text j (ap (λ x. x .n) (o .job)) (ap (λ x. x .m) (o .job)) ws
-
     -- ---- the end
-    nothing-laid : Laid j (start pattern text) b ws₁ b noTiles
+    nothing-laid : Laid j (replacedIn (start pattern text)) b ws₁ b noTiles
     unfolding tileWords covered
     nothing-laid =
         record {
@@ -131,12 +155,15 @@ module _ (first second : List ℕ) (minimum : ℕ) (ws b : List ℕ) (c : Compar
 
     pub all-listed : (ws₂ b' : List ℕ) (k : Totals) → Finished j (j .minimum) ws₁ b noTiles ws₂ b' k → Listed (listing first second minimum) b b' k
     all-listed ws₂ b' k f =
-        let l = f .onward .keeps (start pattern text) b nothing-laid in
+        let s = replacedIn (start pattern text) in
+        let l = f .onward .keeps s b nothing-laid in
         let least : j .minimum ≡ minimum = ap (λ x. x .minimum) (o .job) in
         let straight : j .straight ≡ firstIsPattern first second = ap (λ x. x .straight) (o .job) in
-        let g : Greedy best size lay (j .minimum) (start pattern text) (l .tiles ++ []) = l .rest [] (done (f .short)) in
+        let g : Greedy best size lay (j .minimum) s (l .tiles ++ []) = l .rest [] (done (f .short)) in
         let t : l .tiles ≡ tiling minimum (start pattern text) =
-        sym (append-nil (l .tiles)) ∙ only (subst (λ x. Greedy best size lay x (start pattern text) (l .tiles ++ [])) least g) (tiling-greedy minimum (c .least) (start pattern text)) in
+        sym (append-nil (l .tiles))
+        ∙ (only (subst (λ x. Greedy best size lay x s (l .tiles ++ [])) least g) (tiling-greedy minimum (c .least) s)
+        ∙ tiling-replaced minimum (start pattern text)) in
         let all : map (listed (j .straight)) (l .tiles) ≡ listing first second minimum = rw (t, straight) (sym (listing-is first second minimum)) in
         record {
           held = rw (← all) (l .held);

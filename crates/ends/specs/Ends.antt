@@ -2,8 +2,9 @@
 use Prim.Native.Nat.{ℕ, _+_}
 use mathlib.Core.Bool.{true, false}
 use mathlib.Core.Path.{_≡_}
-use mathlib.Core.List.{List, _++_}
+use mathlib.Core.List.{List, _++_, map}
 use lib.ListN.{length, replicate}
+use Rattle.symbol.specs.Word.{replaced}
 use Rattle.buffer.specs.Buffer.{onto}
 use Rattle.tiling.specs.Choice.{firstIsPattern}
 use Rattle.tiling.specs.Listing.{score}
@@ -28,10 +29,10 @@ jobOf first second minimum =
       straight = firstIsPattern first second;
     }
 
--- A comparison was opened: its job, and the workspace, which begins with pattern and text.
+-- A comparison was opened: its job, and the workspace, which begins with the replaced words of pattern and text.
 pub record Opened (first second : List ℕ) (minimum : ℕ) (ws : List ℕ) (j : Job) (ws' : List ℕ) : Type 0 where
   pub job : j ≡ jobOf first second minimum
-  pub copied : ws' ≡ onto (patternOf first second ++ textOf first second) ws
+  pub copied : ws' ≡ onto (map replaced (patternOf first second) ++ map replaced (textOf first second)) ws
 
 -- Nothing is laid yet.
 abbrev pub noTiles : Totals

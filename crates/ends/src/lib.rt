@@ -5,15 +5,16 @@ use sweep::Job;
 use sweep::Totals;
 use tiling::Compared;
 ghost use mathlib.Core.Path.{_≡_};
-ghost use mathlib.Core.List.{_++_};
+ghost use mathlib.Core.List.{_++_, map};
 ghost use Prim.Native.Nat.{_+_, _≤_};
 ghost use lib.ListN.{length};
+ghost use Rattle.symbol.specs.Word.{replaced};
 ghost use Rattle.buffer.specs.Buffer.{onto};
 ghost use Rattle.tiling.specs.Choice.{firstIsPattern};
 ghost use Rattle.ends.specs.Ends.{Opened, refusedBy, Closed};
 
-// Whether the first sequence is the pattern: the shorter one is, and of equal lengths the one with the smaller word at the first position where
-// they differ. Of equal sequences it is the first.
+// Whether the first sequence is the pattern: the shorter one is, and of equal lengths the one with the smaller word, as it stands, at the first
+// position where they differ. Of equal sequences it is the first.
 fn first_is_pattern(first: &[u32], second: &[u32]) -> bool
     ensures { λ r. ⌜ r ≡ firstIsPattern (now (first .entry)) (now (second .entry)) ⌝ }
 {
@@ -32,18 +33,34 @@ fn first_is_pattern(first: &[u32], second: &[u32]) -> bool
     true
 }
 
-// Puts pattern and text to the start of the workspace.
+// Copies words to the start of a buffer, each of them replaced. Most sequences have no retired code.
+fn copy_replaced(words: &[u32], buffer: &mut [u32])
+    requires { ⌜ length (now words) ≤ length (now buffer) ⌝ }
+    ensures { λ r. ⌜ now (buffer .exit) ≡ onto (map replaced (now (words .entry))) (now (buffer .entry)) ⌝ }
+{
+    if symbol::none_retired(words) {
+        buffer::copy(words, buffer);
+        return;
+    }
+    let mut i = 0;
+    while i < words.len() {
+        buffer[i] = symbol::replaced(words[i]);
+        i += 1;
+    }
+}
+
+// Puts pattern and text to the start of the workspace, their words replaced once and for all.
 fn copy_in(pattern: &[u32], text: &[u32], ws: &mut [u32])
     requires { ⌜ length (now pattern) + length (now text) ≤ length (now ws) ⌝ }
-    ensures { λ r. ⌜ now (ws .exit) ≡ onto (now (pattern .entry) ++ now (text .entry)) (now (ws .entry)) ⌝ }
+    ensures { λ r. ⌜ now (ws .exit) ≡ onto (map replaced (now (pattern .entry)) ++ map replaced (now (text .entry))) (now (ws .entry)) ⌝ }
 {
     let n = pattern.len();
     let end = n + text.len();
-    buffer::copy(pattern, ws);
-    buffer::copy(text, &mut ws[n..end]);
+    copy_replaced(pattern, ws);
+    copy_replaced(text, &mut ws[n..end]);
 }
 
-// Chooses the pattern and puts pattern and text to the start of the workspace.
+// Chooses the pattern, by the words as handed in, and puts pattern and text to the start of the workspace.
 pub fn open(first: &[u32], second: &[u32], minimum: usize, ws: &mut [u32]) -> Job
     requires { ⌜ length (now first) + length (now second) ≤ length (now ws) ⌝ }
     ensures { λ r. ⌜ Opened (now (first .entry)) (now (second .entry)) minimum (now (ws .entry)) r (now (ws .exit)) ⌝ }

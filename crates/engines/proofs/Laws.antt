@@ -14,12 +14,13 @@ use Rattle.symbol.specs.Refusal.{refuse}
 use Rattle.tiling.specs.Each.{Each}
 use Rattle.tiling.specs.Greedy.{Begins}
 use Rattle.tiling.specs.Comparing.{sequences, minimums, room, plainRefusal, fastRefusal, Comparable, Roomy}
+use Rattle.tiling.specs.Listing.{outsideListing}
 use Rattle.tiling.specs.Answer.{Compares}
 use Rattle.tiling.specs.Demand.{long, tilesOf, EqualStarts, Demands, Exchanges}
 use Rattle.tiling.specs.declared.Compared.{Compared}
 use Rattle.tiling.proofs.Comparing.{comparable, fast-in-range, in-range-passes, plain-accepts, fast-passes, comparable-exchange, plain-refusal-exchange, fast-checks-exchange}
 use Rattle.tiling.proofs.Demand.{covered-falls, score-falls}
-use Rattle.tiling.proofs.Answers.{answers-number, answers-covered, answers-demands, answers-equal, answers-exchange, answers-begin}
+use Rattle.tiling.proofs.Answers.{answers-number, answers-covered, answers-demands, answers-outside, answers-equal, answers-exchange, answers-begin}
 use Rattle.plain.specs.Promise.{Plain}
 use Rattle.search.specs.Promise.{Fast}
 use Rattle.engines.specs.Engine.{Engine, plain, fast, Promise, refusalBy, OwnRefusal, SetFor}
@@ -62,6 +63,11 @@ module _ (e : Engine) {first second : List ℕ} {minimum : ℕ} {ws b : List ℕ
   -- All that demand 3 and 01 say of the answer and of the tiles listed.
   pub engine-demands : Demands first second minimum a b'
   engine-demands = answers-demands c accepted accepted-comparable
+
+  -- The tiles are those of an outside comparison, which knows no retired code, of the words replaced beforehand, except for the choice of
+  -- pattern.
+  pub engine-outside : tilesOf a b' ≡ outsideListing first second minimum
+  engine-outside = answers-outside c accepted
 
 -- A sequence with itself, handed in twice: each tile has equal starts.
 pub engine-equal-starts : (e : Engine) {s : List ℕ} {minimum : ℕ} {ws b : List ℕ} {a : Compared} {ws' b' : List ℕ} → Promise e s s minimum ws b a ws' b' → Each EqualStarts (tilesOf a b')

@@ -10,7 +10,7 @@ use mathlib.Core.List.{List, _∷_}
 use lib.ListN.{drop, getD, length-take, length-drop}
 use lib.Seq.{drop-cons, getD-take, getD-drop}
 use Rattle.symbol.specs.Word.{isCall, matches}
-use Rattle.symbol.proofs.Word.{match-call, match-self, match-swap, no-match-left}
+use Rattle.symbol.proofs.Retired.{match-call, match-self, match-swap, no-match-left}
 use Rattle.tiling.specs.Run.{run}
 use Rattle.tiling.specs.Tiling.{State, runAt}
 use Rattle.tiling.proofs.Leading.{leading-cons, leading-none}

@@ -159,7 +159,7 @@ module _ (x : Pass) (ws₀ ws hs : List ℕ) (fs : List Bool) (t after free : �
       record {
         within = omega arith;
         ranges = i .ranges;
-        space = space-kept j ws ws' same (i .space);
+        space = space-kept j ws ws' same state-linked (i .space);
         room = same ∙ i .room;
         same = state-linked ∙ i .same;
         on-pattern = λ p l. elsewhere (j .n + j .m + p) (λ z. omega arith) ∙ i .on-pattern p l;

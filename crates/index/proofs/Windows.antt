@@ -1,6 +1,6 @@
 -- The hashes of a pass and what the search may go by. The two sequences stand side by side, so that the hashes of all their windows are one
--- list; a window that straddles is never asked about. Where a run of s words begins, the two windows are the same words and so have the
--- same hash, and the window of the text is free; so no walk along its bucket steps over it.
+-- list; a window that straddles is never asked about. Where a run of s words begins, the two windows are the same words once replaced and so
+-- have the same hash, and the window of the text is free; so no walk along its bucket steps over it.
 -- Assumes nothing.
 use Prim.Native.Nat.{ℕ, _+_, _-_, _≤_, _<_}
 use native.Mathlib.Omega.{arith}
@@ -10,19 +10,17 @@ use mathlib.Core.List.{List, _++_}
 use borrow.Author.Tests.{le-leb, eq-eqb, eqb-true}
 use lib.Dec.{leb, eqb}
 use lib.ListN.{length, take, drop, getD, length-drop, length-append, List·getD-append}
-use lib.Seq.{length-take-le, take-take, take-add, drop-at, take-at, getD-append-add, getD-take, take-append-le, drop-append-le, drop-append-add, ext-getD}
-use Rattle.symbol.proofs.Word.{match-equal}
+use lib.Seq.{length-take-le, take-take, take-add, drop-at, take-at, getD-append-add, take-append-le, drop-append-le, drop-append-add}
 use Rattle.buffer.specs.Buffer.{onto}
 use Rattle.buffer.proofs.Buffer.{length-onto}
-use Rattle.tiling.specs.Run.{run}
 use Rattle.tiling.specs.Tiling.{State, runAt}
-use Rattle.tiling.proofs.Run.{run-match, run-within}
-use Rattle.window.specs.Hash.{hash, bucket}
-use Rattle.window.specs.HashList.{hashes, hashAt}
-use Rattle.window.proofs.HashList.{length-hashes, getD-hashes}
+use Rattle.tiling.proofs.Run.{run-within, run-words}
+use Rattle.window.specs.Hash.{wordsHash, bucket}
+use Rattle.window.specs.HashList.{hashesBy, hashAt}
+use Rattle.window.proofs.HashList.{length-hashes, getD-hashes, hash-current}
 use Rattle.sweep.specs.Workspace.{Space, state}
 use Rattle.sweep.specs.declared.Job.{Job}
-use Rattle.sweep.proofs.Workspace.{pattern-length, text-length}
+use Rattle.sweep.proofs.Workspace.{space-kept, pattern-length, text-length}
 use Rattle.index.specs.Indexed.{patternHash, textHash, link, slot, Ranges, Indexed}
 use Rattle.index.specs.Built.{freeAt, inBucket, nextIn, Linked, Built}
 use Rattle.index.specs.declared.Pass.{Pass}
@@ -30,16 +28,6 @@ use Rattle.index.proofs.Bucket.{bucket-below}
 use Rattle.index.proofs.First.{first-least, first-most, first-passes}
 use Rattle.index.proofs.Free.{free-run}
 use Rattle.index.proofs.Kept.{column-inside}
-
--- The words of a run are the same on both sides.
-run-equal : (ps ts : List ℕ) (s : ℕ) → s ≤ run ps ts → take s ps ≡ take s ts
-run-equal ps ts s h =
-    let a : length (take s ps) ≡ s = length-take-le s ps (omega (arith, h, run-within ps ts)) in
-    let b : length (take s ts) ≡ s = length-take-le s ts (omega (arith, h, run-within ps ts)) in
-    ext-getD 0 (take s ps) (take s ts) (a ∙ sym b)
-    (λ i l.
-    let d : i < s = omega (arith, l, a) in
-    getD-take s ps i 0 d ∙ (match-equal (getD ps i 0) (getD ts i 0) (run-match ps ts i (omega arith)) ∙ sym (getD-take s ts i 0 d)))
 
 -- A part of a front part.
 take-front : (a b : ℕ) (xs ys : List ℕ) → take (a + b) xs ≡ take (a + b) ys → take a xs ≡ take a ys
@@ -74,7 +62,7 @@ module _ (x : Pass) (ws hs : List ℕ) (fs : List Bool) (ranges : Ranges x) (spa
         let ts = drop u (state (x .job) ws .text) in
         let in-pattern : p + x .s ≤ x .job .n = omega (arith, h, ranges .one, run-within ps ts, length-drop p (state (x .job) ws .pattern), pattern-length (x .job) ws space) in
         let in-text : u + x .s ≤ x .job .m = omega (arith, h, ranges .one, run-within ps ts, length-drop u (state (x .job) ws .text), text-length (x .job) ws space) in
-        on-text u in-text ∙ (ap (hash (x .multiplier)) (sym (run-equal ps ts (x .s) h)) ∙ sym (on-pattern p in-pattern))
+        on-text u in-text ∙ (ap (wordsHash (x .multiplier)) (sym (run-words ps ts (x .s) h)) ∙ sym (on-pattern p in-pattern))
 
     inside : u < x .job .m
     inside = column-inside (x .job) ws p u (omega (arith, h, ranges .one))
@@ -107,7 +95,7 @@ module _ (x : Pass) (ws hs : List ℕ) (fs : List Bool) (ranges : Ranges x) (spa
       }
 
 -- ---- the hashes
-module _ (x : Pass) (ws ws' : List ℕ) (space : Space (x .job) ws) (ranges : Ranges x) (made : ws' ≡ take (x .job .n + x .job .m) ws ++ onto (hashes (x .multiplier) (x .s) (take (x .job .n + x .job .m) ws)) (drop (x .job .n + x .job .m) ws)) where
+module _ (x : Pass) (ws ws' : List ℕ) (space : Space (x .job) ws) (ranges : Ranges x) (made : ws' ≡ take (x .job .n + x .job .m) ws ++ onto (hashesBy (wordsHash (x .multiplier)) (x .s) (take (x .job .n + x .job .m) ws)) (drop (x .job .n + x .job .m) ws)) where
   abbrev j : Job
   j = x .job
 
@@ -126,18 +114,18 @@ module _ (x : Pass) (ws ws' : List ℕ) (space : Space (x .job) ws) (ranges : Ra
   both-are : both ≡ state j ws .pattern ++ state j ws .text
   both-are = take-add (j .n) (j .m) ws
 
-  few-hashes : length (hashes B s both) ≤ j .n + j .m
+  few-hashes : length (hashesBy (wordsHash B) s both) ≤ j .n + j .m
   few-hashes = omega (arith, length-hashes B s both, both-length)
 
   hashed-length : length ws' ≡ length ws
   hashed-length =
       ap length made
-      ∙ (length-append both (onto (hashes B s both) (drop (j .n + j .m) ws))
-      ∙ omega (arith, both-length, few-hashes, length-onto (hashes B s both) (drop (j .n + j .m) ws) (omega (arith, few-hashes, length-drop (j .n + j .m) ws, space .roomy)), length-drop (j .n + j .m) ws, space .roomy))
+      ∙ (length-append both (onto (hashesBy (wordsHash B) s both) (drop (j .n + j .m) ws))
+      ∙ omega (arith, both-length, few-hashes, length-onto (hashesBy (wordsHash B) s both) (drop (j .n + j .m) ws) (omega (arith, few-hashes, length-drop (j .n + j .m) ws, space .roomy)), length-drop (j .n + j .m) ws, space .roomy))
 
   -- The sequences are as they were.
   same-front : take (j .n + j .m) ws' ≡ both
-  same-front = rw made (take-at both (onto (hashes B s both) (drop (j .n + j .m) ws)) (j .n + j .m) both-length)
+  same-front = rw made (take-at both (onto (hashesBy (wordsHash B) s both) (drop (j .n + j .m) ws)) (j .n + j .m) both-length)
 
   same-text : take (j .m) (drop (j .n) ws') ≡ take (j .m) (drop (j .n) ws)
   same-text =
@@ -147,10 +135,13 @@ module _ (x : Pass) (ws ws' : List ℕ) (space : Space (x .job) ws) (ranges : Ra
   hashed-state : state j ws' ≡ state j ws
   hashed-state = λ i. record { pattern = take-front (j .n) (j .m) ws' ws same-front i; text = same-text i }
 
+  pub hashed-space : Space j ws'
+  hashed-space = space-kept j ws ws' hashed-length hashed-state space
+
   -- What is stored for a position of the two.
-  stored : (i : ℕ) → i + s ≤ j .n + j .m → getD ws' (j .n + j .m + i) 0 ≡ hash B (take s (drop i both))
+  stored : (i : ℕ) → i + s ≤ j .n + j .m → getD ws' (j .n + j .m + i) 0 ≡ wordsHash B (take s (drop i both))
   stored i fits =
-      let front = hashes B s both in
+      let front = hashesBy (wordsHash B) s both in
       let back = onto front (drop (j .n + j .m) ws) in
       let at : j .n + j .m + i ≡ length both + i = omega (arith, both-length) in
       ap (λ xs. getD xs (j .n + j .m + i) 0) made
@@ -174,17 +165,18 @@ module _ (x : Pass) (ws ws' : List ℕ) (space : Space (x .job) ws) (ranges : Ra
       ∙ ap (take s) (drop-append-add (state j ws .pattern) (state j ws .text) u))
 
   on-pattern : (p : ℕ) → p + s ≤ j .n → patternHash j ws' p ≡ hashAt B s (state j ws .pattern) p
-  on-pattern p fits = stored p (omega arith) ∙ ap (hash B) (pattern-window p fits)
+  on-pattern p fits = stored p (omega arith) ∙ (ap (wordsHash B) (pattern-window p fits) ∙ hash-current B s (state j ws .pattern) (space .current .on-pattern) p)
 
   on-text : (t : ℕ) → t + s ≤ j .m → textHash j ws' t ≡ hashAt B s (state j ws .text) t
   on-text t fits =
       let at : j .n + j .m + j .n + t ≡ j .n + j .m + (j .n + t) = omega arith in
-      ap (λ i. getD ws' i 0) at ∙ (stored (j .n + t) (omega arith) ∙ ap (hash B) (text-window t))
+      ap (λ i. getD ws' i 0) at ∙ (stored (j .n + t) (omega arith) ∙ (ap (wordsHash B) (text-window t) ∙ hash-current B s (state j ws .text) (space .current .on-text) t))
 
   -- The windows were linked from there.
   pub built-all : (ws₂ hs : List ℕ) (fs : List Bool) → Linked x ws' ws₂ hs fs → Built x ws ws₂ hs fs
   built-all ws₂ hs fs l =
       record {
+        space = l .space;
         same = same;
         on-pattern = pattern;
         on-text = text;

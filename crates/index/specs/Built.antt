@@ -57,6 +57,7 @@ pub record Linked (x : Pass) (ws ws' hs : List ℕ) (fs : List Bool) : Type 0 wh
 -- links are those of their buckets. Where no window fits, what stands in the place of its hash is left open; only free windows are linked, and
 -- equal hashes are only a reason to look at the words.
 pub record Built (x : Pass) (ws ws' hs : List ℕ) (fs : List Bool) : Type 0 where
+  pub space : Space (x .job) ws'
   pub same : state (x .job) ws' ≡ state (x .job) ws
   pub on-pattern : (p : ℕ) → p + x .s ≤ x .job .n → patternHash (x .job) ws' p ≡ hashAt (x .multiplier) (x .s) (state (x .job) ws .pattern) p
   pub on-text : (t : ℕ) → t + x .s ≤ x .job .m → textHash (x .job) ws' t ≡ hashAt (x .multiplier) (x .s) (state (x .job) ws .text) t

@@ -1,4 +1,4 @@
--- A run that is no longer than the best so far: it ends with either list, and where two words do not match.
+-- Pairs that pass a test one after another, no more than the best so far: they end with either list, and where two words do not pass.
 -- Assumes nothing.
 use Prim.Native.Nat.{ℕ, _≤_, max}
 use native.Mathlib.Omega.{arith}
@@ -7,15 +7,15 @@ use mathlib.Core.Bool.{Bool, true, not}
 use mathlib.Core.List.{List}
 use borrow.Author.Tests.{not-true}
 use lib.ListN.{length, getD}
-use Rattle.symbol.specs.Word.{matches}
-use Rattle.tiling.specs.Run.{run}
-use Rattle.tiling.proofs.Run.{run-within, run-most}
+use Rattle.tiling.specs.Run.{leading}
+use Rattle.tiling.proofs.Leading.{leading-within, leading-most}
 
-pub longer-pattern : (ps ts : List ℕ) (best : ℕ) → length ps ≤ best → best ≡ max best (run ps ts)
-longer-pattern ps ts best h = omega (arith, run-within ps ts)
+module _ (test : ℕ → ℕ → Bool) (ps ts : List ℕ) (best : ℕ) where
+  pub longer-pattern : length ps ≤ best → best ≡ max best (leading test ps ts)
+  longer-pattern h = omega (arith, leading-within test ps ts)
 
-pub longer-text : (ps ts : List ℕ) (best : ℕ) → length ts ≤ best → best ≡ max best (run ps ts)
-longer-text ps ts best h = omega (arith, run-within ps ts)
+  pub longer-text : length ts ≤ best → best ≡ max best (leading test ps ts)
+  longer-text h = omega (arith, leading-within test ps ts)
 
-pub longer-stop : (ps ts : List ℕ) (best : ℕ) (r : Bool) → r ≡ matches (getD ps best 0) (getD ts best 0) → not r ≡ true → best ≡ max best (run ps ts)
-longer-stop ps ts best r e f = omega (arith, run-most ps ts best (sym e ∙ not-true r f))
+  pub longer-stop : (r : Bool) → r ≡ test (getD ps best 0) (getD ts best 0) → not r ≡ true → best ≡ max best (leading test ps ts)
+  longer-stop r e f = omega (arith, leading-most test ps ts best (sym e ∙ not-true r f))

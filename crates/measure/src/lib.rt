@@ -1,10 +1,11 @@
 // How long a run is, and where two words stand side by side. Words are looked at in blocks: a block is tested as a whole, and nothing
-// in it branches on a word, so that the compiler tests several words at once.
+// in it branches on a word, so that the compiler tests several words at once. The words are those of a workspace, which are replaced
+// already, so two of them match where they are equal calls.
 ghost use mathlib.Core.Path.{_≡_};
 ghost use Prim.Native.Nat.{_≤_, max};
 ghost use lib.Dec.{leb};
 ghost use lib.ListN.{length};
-ghost use Rattle.tiling.specs.Run.{run};
+ghost use Rattle.tiling.specs.Run.{equalRun};
 ghost use Rattle.measure.specs.Block.{block, wholeBlocks};
 ghost use Rattle.measure.specs.Before.{before};
 
@@ -14,12 +15,12 @@ const BLOCK: usize = 8;
 // Whether the first words of two parts match one by one, as many as a block has.
 fn block_matches(pattern: &[u32], text: &[u32]) -> bool
     requires { ⌜ (block ≤ length (now pattern)) × (block ≤ length (now text)) ⌝ }
-    ensures { λ r. ⌜ r ≡ leb block (run (now (pattern .entry)) (now (text .entry))) ⌝ }
+    ensures { λ r. ⌜ r ≡ leb block (equalRun (now (pattern .entry)) (now (text .entry))) ⌝ }
 {
     let mut all = true;
     let mut i = 0;
     while i < BLOCK {
-        all = all & symbol::words_match(pattern[i], text[i]);
+        all = all & symbol::equal_calls(pattern[i], text[i]);
         i += 1;
     }
     all
@@ -27,7 +28,7 @@ fn block_matches(pattern: &[u32], text: &[u32]) -> bool
 
 // How many words match one by one from the start of two parts, in whole blocks.
 fn blocks_run(pattern: &[u32], text: &[u32]) -> usize
-    ensures { λ r. ⌜ r ≡ wholeBlocks (run (now (pattern .entry)) (now (text .entry))) ⌝ }
+    ensures { λ r. ⌜ r ≡ wholeBlocks (equalRun (now (pattern .entry)) (now (text .entry))) ⌝ }
 {
     let mut n = 0;
     while BLOCK <= pattern.len() - n
@@ -41,11 +42,11 @@ fn blocks_run(pattern: &[u32], text: &[u32]) -> usize
 
 // How many words match one by one from the start of two parts, of which some are known to.
 fn run_from(pattern: &[u32], text: &[u32], known: usize) -> usize
-    requires { ⌜ known ≤ run (now pattern) (now text) ⌝ }
-    ensures { λ r. ⌜ r ≡ run (now (pattern .entry)) (now (text .entry)) ⌝ }
+    requires { ⌜ known ≤ equalRun (now pattern) (now text) ⌝ }
+    ensures { λ r. ⌜ r ≡ equalRun (now (pattern .entry)) (now (text .entry)) ⌝ }
 {
     let mut n = known;
-    while n < pattern.len() && n < text.len() && symbol::words_match(pattern[n], text[n]) {
+    while n < pattern.len() && n < text.len() && symbol::equal_calls(pattern[n], text[n]) {
         n += 1;
     }
     n
@@ -53,7 +54,7 @@ fn run_from(pattern: &[u32], text: &[u32], known: usize) -> usize
 
 // The run where it is longer than best, else best. The words after the last whole block are looked at only where they decide.
 pub fn measured_run(pattern: &[u32], text: &[u32], best: usize) -> usize
-    ensures { λ r. ⌜ r ≡ max best (run (now (pattern .entry)) (now (text .entry))) ⌝ }
+    ensures { λ r. ⌜ r ≡ max best (equalRun (now (pattern .entry)) (now (text .entry))) ⌝ }
 {
     let whole = blocks_run(pattern, text);
     if whole + (BLOCK - 1) <= best {
@@ -69,7 +70,7 @@ pub fn measured_run(pattern: &[u32], text: &[u32], best: usize) -> usize
 // The same. Most candidates are dismissed by the words at offset best alone: where these do not match, the run is no longer than
 // best.
 pub fn longer_run(pattern: &[u32], text: &[u32], best: usize) -> usize
-    ensures { λ r. ⌜ r ≡ max best (run (now (pattern .entry)) (now (text .entry))) ⌝ }
+    ensures { λ r. ⌜ r ≡ max best (equalRun (now (pattern .entry)) (now (text .entry))) ⌝ }
 {
     if pattern.len() <= best {
         return best;
@@ -77,7 +78,7 @@ pub fn longer_run(pattern: &[u32], text: &[u32], best: usize) -> usize
     if text.len() <= best {
         return best;
     }
-    if !symbol::words_match(pattern[best], text[best]) {
+    if !symbol::equal_calls(pattern[best], text[best]) {
         return best;
     }
     measured_run(pattern, text, best)

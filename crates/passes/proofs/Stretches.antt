@@ -10,7 +10,7 @@ use mathlib.Core.List.{List}
 use lib.ListN.{length, take, drop, getD, length-drop}
 use lib.Seq.{getD-drop}
 use Rattle.symbol.specs.Word.{isCall}
-use Rattle.symbol.proofs.Word.{no-match-left}
+use Rattle.symbol.proofs.Retired.{no-match-left}
 use Rattle.tiling.specs.Run.{run}
 use Rattle.tiling.specs.Tiling.{start}
 use Rattle.tiling.proofs.Run.{run-within, run-most}

@@ -9,7 +9,7 @@ use mathlib.Core.Path.{_≡_, refl, sym, _∙_, ap, subst}
 use mathlib.Core.List.{List}
 use lib.ListN.{length, drop, set, length-set, length-drop}
 use lib.Seq.{getD-set-same, getD-set-other}
-use Rattle.tiling.specs.Tiling.{State, rowLength, bestText}
+use Rattle.tiling.specs.Tiling.{State, rowLengthBy, rowLength, bestText}
 use Rattle.tiling.proofs.Best.{row-most}
 use Rattle.sweep.specs.Workspace.{Space, state, boundsFrom, bound}
 use Rattle.sweep.specs.Row.{Row}
@@ -24,7 +24,7 @@ use Rattle.plain.specs.Bounds.{LongestRuns}
 
 -- What a row's search found.
 row-found : (s : State) (p floor : ℕ) (f : Found) → Row (drop p (s .pattern)) (s .text) floor f → f .len ≡ max floor (rowLength s p)
-unfolding rowLength
+unfolding rowLengthBy
 row-found s p floor f r = go (decLt floor (f .len))
   where
     go : Dec (floor < f .len) → f .len ≡ max floor (rowLength s p)
@@ -66,7 +66,7 @@ module _ (j : Job) (ws₀ ws : List ℕ) (p : ℕ) (f : Found) (s : Filling j ws
         within = omega arith;
         least = s .least;
         most = s .most;
-        space = space-kept j ws (set ws (boundsFrom j + p) (f .len)) (length-set ws (boundsFrom j + p) (f .len)) (s .space);
+        space = space-kept j ws (set ws (boundsFrom j + p) (f .len)) (length-set ws (boundsFrom j + p) (f .len)) (state-set j ws p (f .len)) (s .space);
         same-room = length-set ws (boundsFrom j + p) (f .len) ∙ s .same-room;
         same = state-set j ws p (f .len) ∙ s .same;
         exact = λ q h. exact q h (ℕ-discrete q p);

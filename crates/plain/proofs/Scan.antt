@@ -9,9 +9,12 @@ use mathlib.Core.Path.{_≡_, sym, _∙_, subst}
 use mathlib.Core.List.{List}
 use lib.ListN.{length, take, drop, getD, length-drop}
 use lib.Seq.{getD-drop}
-use Rattle.symbol.proofs.Word.{match-equal}
-use Rattle.tiling.specs.Run.{run}
+use Rattle.symbol.specs.Sequence.{Current}
+use Rattle.symbol.proofs.Retired.{match-equal}
+use Rattle.symbol.proofs.Sequence.{current-at, current-drop}
+use Rattle.tiling.specs.Run.{run, equalRun}
 use Rattle.tiling.proofs.Run.{run-within, run-match}
+use Rattle.tiling.proofs.Replaced.{run-current}
 use Rattle.tile.specs.declared.TextAt.{TextAt}
 use Rattle.buffer.proofs.Buffer.{tail-is}
 use Rattle.sweep.specs.Row.{Row, better}
@@ -21,9 +24,15 @@ use Rattle.plain.specs.Pair.{SideBySide}
 use Rattle.sweep.proofs.Row.{better-new, better-old}
 
 -- ---- a row
-pub record Seen (ps ts : List ℕ) (floor t : ℕ) (f : Found) : Type 0 where
+-- What is known of the two parts.
+pub record Parts (ps ts : List ℕ) : Type 0 where
   pub short-pattern : length ps ≤ 2048
   pub short-text : length ts ≤ 2048
+  pub current-pattern : Current ps
+  pub current-text : Current ts
+
+pub record Seen (ps ts : List ℕ) (floor t : ℕ) (f : Found) : Type 0 where
+  pub parts : Parts ps ts
   pub within : t ≤ length ts + 1
   pub small : f .len ≤ 2048
   pub least : floor ≤ f .len
@@ -31,11 +40,10 @@ pub record Seen (ps ts : List ℕ) (floor t : ℕ) (f : Found) : Type 0 where
   pub long : floor < f .len → run ps (drop (f .t .0) ts) ≡ f .len
   pub first : floor < f .len → (u : ℕ) → u < f .t .0 → run ps (drop u ts) < f .len
 
-pub seen-none : (ps ts : List ℕ) (floor : ℕ) (a : TextAt) → floor ≤ 2048 → length ps ≤ 2048 → length ts ≤ 2048 → Seen ps ts floor 0 (record { t = a; len = floor })
-seen-none ps ts floor a h p t =
+pub seen-none : (ps ts : List ℕ) (floor : ℕ) (a : TextAt) → floor ≤ 2048 → length ps ≤ 2048 → length ts ≤ 2048 → Current ps → Current ts → Seen ps ts floor 0 (record { t = a; len = floor })
+seen-none ps ts floor a h p t c d =
     record {
-      short-pattern = p;
-      short-text = t;
+      parts = record { short-pattern = p; short-text = t; current-pattern = c; current-text = d };
       within = omega arith;
       small = h;
       least = omega arith;
@@ -44,7 +52,7 @@ seen-none ps ts floor a h p t =
       first = λ l. absurd (omega arith);
     }
 
-module _ (ps ts : List ℕ) (floor t : ℕ) (f : Found) (r len : ℕ) (a : TextAt) (s : Seen ps ts floor t f) (h : f .len < length ps) (k : t + f .len < length ts) (c : First (SideBySide ts (f .len) (getD ps 0 0) (getD ps (f .len) 0)) t (length ts - f .len) r) (at : a .0 ≡ r) (e : len ≡ max (f .len) (run ps (take (length ts - r) (drop r ts)))) where
+module _ (ps ts : List ℕ) (floor t : ℕ) (f : Found) (r len : ℕ) (a : TextAt) (s : Seen ps ts floor t f) (h : f .len < length ps) (k : t + f .len < length ts) (c : First (SideBySide ts (f .len) (getD ps 0 0) (getD ps (f .len) 0)) t (length ts - f .len) r) (at : a .0 ≡ r) (e : len ≡ max (f .len) (equalRun ps (take (length ts - r) (drop r ts)))) where
   -- A run longer than what was found has both words.
   both : (u : ℕ) → f .len < run ps (drop u ts) → SideBySide ts (f .len) (getD ps 0 0) (getD ps (f .len) 0) u
   both u l =
@@ -54,7 +62,10 @@ module _ (ps ts : List ℕ) (floor t : ℕ) (f : Found) (r len : ℕ) (a : TextA
       }
     where
       word : (i : ℕ) → i < run ps (drop u ts) → getD ts (u + i) 0 ≡ getD ps i 0
-      word i m = sym (getD-drop u ts i 0) ∙ sym (match-equal (getD ps i 0) (getD (drop u ts) i 0) (run-match ps (drop u ts) i m))
+      word i m =
+          let same = match-equal (getD ps i 0) (getD (drop u ts) i 0) (run-match ps (drop u ts) i m) in
+          sym (getD-drop u ts i 0)
+          ∙ (sym (current-at (drop u ts) (current-drop u ts (s .parts .current-text)) i) ∙ (sym same ∙ current-at ps (s .parts .current-pattern) i))
 
   before : (u : ℕ) → u < r → run ps (drop u ts) ≤ f .len
   before u l = go (decLt u t) (decLe (run ps (drop u ts)) (f .len))
@@ -65,7 +76,7 @@ module _ (ps ts : List ℕ) (floor t : ℕ) (f : Found) (r len : ℕ) (a : TextA
       go (no m) (no d) = absurd (c .none u (omega (arith, m)) l (both u (omega (arith, d))))
 
   here : len ≡ max (f .len) (run ps (drop r ts))
-  here = rw (tail-is r ts) at e
+  here = rw (tail-is r ts, run-current ps (drop r ts) (s .parts .current-pattern) (current-drop r ts (s .parts .current-text))) at e
 
   reached : (n : ℕ) → f .len ≤ n → run ps (drop r ts) ≤ n → (u : ℕ) → u < r + 1 → run ps (drop u ts) ≤ n
   reached n l m u b = go (ℕ-discrete u r)
@@ -81,10 +92,9 @@ module _ (ps ts : List ℕ) (floor t : ℕ) (f : Found) (r len : ℕ) (a : TextA
       go (yes l) =
           subst (λ g. Seen ps ts floor (r + 1) g) (better-new f a len l)
           (record {
-            short-pattern = s .short-pattern;
-            short-text = s .short-text;
+            parts = s .parts;
             within = omega (arith, c .within);
-            small = omega (arith, here, run-within ps (drop r ts), s .short-pattern);
+            small = omega (arith, here, run-within ps (drop r ts), s .parts .short-pattern);
             least = omega (arith, s .least);
             most = reached len (omega arith) (omega (arith, here));
             long = λ m. rw at (omega (arith, here));
@@ -93,8 +103,7 @@ module _ (ps ts : List ℕ) (floor t : ℕ) (f : Found) (r len : ℕ) (a : TextA
       go (no l) =
           subst (λ g. Seen ps ts floor (r + 1) g) (better-old f a len (omega (arith, l)))
           (record {
-            short-pattern = s .short-pattern;
-            short-text = s .short-text;
+            parts = s .parts;
             within = omega (arith, c .within);
             small = s .small;
             least = s .least;

@@ -8,6 +8,7 @@ use tiling::Compared;
 ghost use mathlib.Core.Path.{_≡_};
 ghost use Prim.Native.Nat.{_+_, _-_, _≤_, _<_};
 ghost use lib.ListN.{length, drop};
+ghost use Rattle.symbol.specs.Sequence.{Current};
 ghost use Rattle.tiling.specs.Comparing.{plainRefusal};
 ghost use Rattle.sweep.specs.Workspace.{Space, state};
 ghost use Rattle.sweep.specs.Row.{Row};
@@ -35,7 +36,7 @@ fn next_pair(text: &[u32], from: TextAt, offset: usize, a: u32, b: u32) -> TextA
 // has it. A run longer than what was found has the pattern's first word and the word at that offset, so only the positions
 // where both stand are looked at.
 fn row_search(pattern: &[u32], text: &[u32], floor: usize) -> Found
-    requires { ⌜ (floor ≤ 2048) × (length (now pattern) ≤ 2048) × (length (now text) ≤ 2048) ⌝ }
+    requires { ⌜ (floor ≤ 2048) × (length (now pattern) ≤ 2048) × (length (now text) ≤ 2048) × Current (now pattern) × Current (now text) ⌝ }
     ensures { λ r. ⌜ Row (now (pattern .entry)) (now (text .entry)) floor r ⌝ }
 {
     let mut found = Found {

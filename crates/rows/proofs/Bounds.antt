@@ -12,8 +12,8 @@ use borrow.Author.Tests.{eqb-true}
 use lib.Dec.{eqb}
 use lib.ListN.{length, drop, getD, set, length-set, length-drop}
 use lib.Seq.{drop-cons, getD-drop, getD-take, getD-set-same, getD-set-other}
-use Rattle.symbol.specs.Word.{isCall, matches}
-use Rattle.symbol.proofs.Word.{no-match-left}
+use Rattle.symbol.specs.Word.{isCall, replaced, equalCalls, matches}
+use Rattle.symbol.proofs.Retired.{no-match-left, match-current}
 use Rattle.tiling.specs.Run.{run}
 use Rattle.tiling.specs.Tiling.{State, runAt}
 use Rattle.tiling.proofs.Leading.{leading-cons}
@@ -24,7 +24,7 @@ use Rattle.sweep.specs.Workspace.{Space, state, boundsFrom, bound}
 use Rattle.sweep.specs.Row.{Greatest}
 use Rattle.sweep.specs.declared.Found.{Found}
 use Rattle.sweep.specs.declared.Job.{Job}
-use Rattle.sweep.proofs.Workspace.{state-set, space-kept, pattern-length, text-length}
+use Rattle.sweep.proofs.Workspace.{state-set, space-kept, pattern-length, text-length, pattern-word, text-word}
 use Rattle.index.specs.Indexed.{Ranges, Indexed, patternHash, textHash}
 use Rattle.index.specs.declared.Pass.{Pass}
 use Rattle.index.proofs.Kept.{indexed-set}
@@ -185,7 +185,7 @@ module _ (x : Pass) (heads : List ℕ) (seen : List Bool) (ws₀ ws : List ℕ) 
         subst (λ y. Filling x heads seen ws₀ y (p - 1) f) (sym e)
         (record {
           within = omega (arith, i .within);
-          space = space-kept j ws stored (length-set ws (boundsFrom j + (p - 1)) (f .len)) (i .space);
+          space = space-kept j ws stored (length-set ws (boundsFrom j + (p - 1)) (f .len)) unmoved (i .space);
           same-room = length-set ws (boundsFrom j + (p - 1)) (f .len) ∙ i .same-room;
           same = unmoved ∙ i .same;
           indexed = indexed-set x ws heads seen (p - 1) (f .len) (omega (arith, i .within)) (i .indexed);
@@ -231,9 +231,11 @@ measured-filled x heads seen ws ws' r f g =
 pub goes-nowhere : (j : Job) (ws : List ℕ) (p t : ℕ) → false ≡ true → Further j ws p t
 goes-nowhere j ws p t e = let z : _≡_ {A = ℕ} 0 1 = cc in absurd (omega arith)
 
-pub goes-further : (j : Job) (ws : List ℕ) (p t : ℕ) → (t ≡ 0 → ⊥) → t ≤ j .m → (h : Bool) → h ≡ eqb (textHash j ws (t - 1)) (patternHash j ws p) → h ≡ true → (b : Bool) → b ≡ matches (getD ws p 0) (getD ws (j .n + t - 1) 0) → b ≡ true → Further j ws p t
-goes-further j ws p t some within h k z b m e =
-    record { some = omega (arith, some); within = within; kin = eqb-true (textHash j ws (t - 1)) (patternHash j ws p) (sym k ∙ z); match = sym m ∙ e }
+pub goes-further : (j : Job) (ws : List ℕ) (p t : ℕ) → (t ≡ 0 → ⊥) → t ≤ j .m → (h : Bool) → h ≡ eqb (textHash j ws (t - 1)) (patternHash j ws p) → h ≡ true → Space j ws → p < j .n → (b : Bool) → b ≡ equalCalls (getD ws p 0) (getD ws (j .n + t - 1) 0) → b ≡ true → Further j ws p t
+goes-further j ws p t some within h k z s l b m e =
+    let at : j .n + t - 1 ≡ j .n + (t - 1) = omega (arith, some) in
+    let on-text : replaced (getD ws (j .n + t - 1) 0) ≡ getD ws (j .n + t - 1) 0 = rw at (text-word j ws (t - 1) s (omega (arith, some))) in
+    record { some = omega (arith, some); within = within; kin = eqb-true (textHash j ws (t - 1)) (patternHash j ws p) (sym k ∙ z); match = match-current _ _ (pattern-word j ws p s l) on-text ∙ (sym m ∙ e) }
 
 pub goes-back : (j : Job) (ws : List ℕ) (p t : ℕ) (b : Bool) → (b ≡ true → Further j ws p t) → b ≡ true → 1 ≤ t
 goes-back j ws p t b f e = f e .some

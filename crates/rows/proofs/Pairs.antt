@@ -12,11 +12,13 @@ use borrow.Author.Tests.{eqb-false}
 use lib.Dec.{eqb}
 use lib.ListN.{take, drop}
 use lib.Seq.{drop-drop, getD-drop}
-use Rattle.tiling.specs.Run.{run}
+use Rattle.symbol.proofs.Sequence.{current-drop}
+use Rattle.tiling.specs.Run.{equalRun}
 use Rattle.tiling.specs.Tiling.{State, runAt}
 use Rattle.tiling.proofs.Run.{run-match, run-least}
+use Rattle.tiling.proofs.Replaced.{run-current}
 use Rattle.tile.specs.declared.TextAt.{TextAt}
-use Rattle.sweep.specs.Workspace.{state}
+use Rattle.sweep.specs.Workspace.{Space, state}
 use Rattle.sweep.specs.Row.{better}
 use Rattle.sweep.specs.declared.Found.{Found}
 use Rattle.sweep.specs.declared.Job.{Job}
@@ -27,10 +29,13 @@ use Rattle.index.specs.declared.Pass.{Pass}
 use Rattle.rows.specs.Reached.{Alike}
 
 -- The run of the two parts that begin at the positions.
-pub run-of-parts : (j : Job) (ws : List ℕ) (p t best r : ℕ) → r ≡ max best (run (take (j .n - p) (drop p ws)) (take (j .n + j .m - (j .n + t)) (drop (j .n + t) ws))) → r ≡ max best (runAt (state j ws) p t)
-run-of-parts j ws p t best r e =
+pub run-of-parts : (j : Job) (ws : List ℕ) (p t best r : ℕ) → Space j ws → r ≡ max best (equalRun (take (j .n - p) (drop p ws)) (take (j .n + j .m - (j .n + t)) (drop (j .n + t) ws))) → r ≡ max best (runAt (state j ws) p t)
+run-of-parts j ws p t best r s e =
     let k : j .n + j .m - (j .n + t) ≡ j .m - t = omega arith in
-    rw (rest-of-front p (j .n) ws, k, ← drop-drop t (j .n) ws, rest-of-front t (j .m) (drop (j .n) ws)) at e
+    let ps = drop p (state j ws .pattern) in
+    let ts = drop t (state j ws .text) in
+    let same : equalRun ps ts ≡ runAt (state j ws) p t = run-current ps ts (current-drop p _ (s .current .on-pattern)) (current-drop t _ (s .current .on-text)) in
+    rw (rest-of-front p (j .n) ws, k, ← drop-drop t (j .n) ws, rest-of-front t (j .m) (drop (j .n) ws), same) at e
 
 -- Two hashes that were read.
 pub alike-is : (j : Job) (ws : List ℕ) (p t x y : ℕ) → x ≡ textHash j ws t → y ≡ patternHash j ws p → eqb x y ≡ eqb (textHash j ws t) (patternHash j ws p)

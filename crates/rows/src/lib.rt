@@ -113,7 +113,7 @@ fn goes_on(ws: &[u32], job: Job, p: PatternAt, after: Found) -> bool
     }
     let on_pattern = p.0;
     let on_text = job.n + t - 1;
-    symbol::words_match(ws[on_pattern], ws[on_text])
+    symbol::equal_calls(ws[on_pattern], ws[on_text])
 }
 
 // A length that no run of the row at p exceeds, and where it was found, from that of the row after it: a run is at most one

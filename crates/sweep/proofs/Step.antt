@@ -31,7 +31,7 @@ use Rattle.sweep.specs.declared.Job.{Job}
 use Rattle.sweep.specs.declared.Found.{Found}
 use Rattle.sweep.specs.declared.Totals.{Totals}
 use Rattle.sweep.proofs.Row.{row-small}
-use Rattle.sweep.proofs.Workspace.{state-set, state-laid, length-laid, space-kept, pattern-length, text-length, bound-covered, bound-before, bound-after}
+use Rattle.sweep.proofs.Workspace.{state-set, state-laid, space-kept, space-laid, pattern-length, text-length, bound-covered, bound-before, bound-after}
 
 -- A row whose first word is marked has no run.
 run-zero : (ps ts : List ℕ) → getD ps 0 0 ≡ 0 → run ps ts ≡ 0
@@ -66,7 +66,7 @@ module _ (j : Job) (level p : ℕ) (ws b : List ℕ) (k : Totals) (f : Found) (s
         record {
           fits =
               record {
-                space = space-kept j ws (set ws (boundsFrom j + p) (f .len)) (length-set ws (boundsFrom j + p) (f .len)) (s .fits .space);
+                space = space-kept j ws (set ws (boundsFrom j + p) (f .len)) (length-set ws (boundsFrom j + p) (f .len)) (state-set j ws p (f .len)) (s .fits .space);
                 least = s .fits .least;
                 most = s .fits .most;
                 tile-room = s .fits .tile-room;
@@ -242,7 +242,7 @@ module _ (j : Job) (level p : ℕ) (ws b : List ℕ) (k : Totals) (f : Found) (s
           record {
             fits =
                 record {
-                  space = space-kept j ws (laid j p (f .t .0) level ws) (length-laid j ws p (f .t .0) level) (s .fits .space);
+                  space = space-laid j ws p (f .t .0) level in-pattern in-text (s .fits .space);
                   least = s .fits .least;
                   most = s .fits .most;
                   tile-room = rw same-room (s .fits .tile-room);

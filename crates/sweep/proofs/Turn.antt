@@ -34,7 +34,7 @@ module _ (j : Job) (ws ws' b : List ℕ) (k : Totals) (same : state j ws' ≡ st
   pub unmoved-fits : length ws' ≡ length ws → Fits j ws b k → Fits j ws' b k
   unmoved-fits e f =
       record {
-        space = space-kept j ws ws' e (f .space);
+        space = space-kept j ws ws' e same (f .space);
         least = f .least;
         most = f .most;
         tile-room = f .tile-room;

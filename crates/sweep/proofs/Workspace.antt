@@ -2,13 +2,16 @@
 -- Assumes nothing.
 use Prim.Native.Nat.{ℕ, zero, suc, _+_, _-_, _*_, _≤_, _<_}
 use native.Mathlib.Omega.{arith}
-use mathlib.Core.Path.{_≡_, refl, _∙_}
+use mathlib.Core.Path.{_≡_, refl, sym, _∙_, subst}
 use mathlib.Core.List.{List, [], _∷_}
 use lib.ListN.{length, take, drop, getD, set, length-drop}
 use lib.Seq.{length-take-le, getD-drop, getD-take, take-nil, take-set-le, drop-set-add}
+use Rattle.symbol.specs.Word.{replaced}
+use Rattle.symbol.proofs.Sequence.{current-at}
 use Rattle.tiling.specs.Run.{mark}
-use Rattle.tiling.specs.Tiling.{State, lay}
+use Rattle.tiling.specs.Tiling.{State, lay, AllCurrent}
 use Rattle.tiling.proofs.Run.{length-mark, mark-before, mark-inside, mark-after}
+use Rattle.tiling.proofs.Replaced.{current-lay}
 use Rattle.tile.proofs.Marking.{take-mark-in, take-mark-out, drop-mark-in, drop-mark-out}
 use Rattle.sweep.specs.Workspace.{Space, state, boundsFrom, bound, laid}
 use Rattle.sweep.specs.Row.{Greatest}
@@ -62,9 +65,18 @@ length-laid j ws p t len =
     length-mark (boundsFrom j + p) len (mark (j .n + t) len (mark p len ws))
     ∙ (length-mark (j .n + t) len (mark p len ws) ∙ length-mark p len ws)
 
--- A store changes no length.
-pub space-kept : (j : Job) (ws ws' : List ℕ) → length ws' ≡ length ws → Space j ws → Space j ws'
-space-kept j ws ws' e s = record { short-pattern = s .short-pattern; short-text = s .short-text; roomy = omega (arith, e, s .roomy) }
+-- A store changes no length, and puts no retired call among the words: it leaves the sequences as they are, or marks words of them.
+space-by : (j : Job) (ws ws' : List ℕ) → length ws' ≡ length ws → AllCurrent (state j ws') → Space j ws → Space j ws'
+space-by j ws ws' e c s = record { short-pattern = s .short-pattern; short-text = s .short-text; roomy = omega (arith, e, s .roomy); current = c }
+
+pub space-kept : (j : Job) (ws ws' : List ℕ) → length ws' ≡ length ws → state j ws' ≡ state j ws → Space j ws → Space j ws'
+space-kept j ws ws' e same s = space-by j ws ws' e (subst AllCurrent (sym same) (s .current)) s
+
+pub space-laid : (j : Job) (ws : List ℕ) (p t len : ℕ) → p + len ≤ j .n → t + len ≤ j .m → Space j ws → Space j (laid j p t len ws)
+space-laid j ws p t len h k s =
+    space-by j ws (laid j p t len ws) (length-laid j ws p t len)
+    (subst AllCurrent (sym (state-laid j ws p t len h k)) (current-lay (state j ws) (record { p = p; t = t; len = len }) (s .current)))
+    s
 
 -- The lengths of the two sequences.
 pub pattern-length : (j : Job) (ws : List ℕ) → Space j ws → length (state j ws .pattern) ≡ j .n
@@ -72,6 +84,13 @@ pattern-length j ws s = length-take-le (j .n) ws (omega (arith, s .roomy))
 
 pub text-length : (j : Job) (ws : List ℕ) → Space j ws → length (state j ws .text) ≡ j .m
 text-length j ws s = length-take-le (j .m) (drop (j .n) ws) (omega (arith, s .roomy, length-drop (j .n) ws))
+
+-- No word of them is a retired call.
+pub pattern-word : (j : Job) (ws : List ℕ) (p : ℕ) → Space j ws → p < j .n → replaced (getD ws p 0) ≡ getD ws p 0
+pattern-word j ws p s h = rw (getD-take (j .n) ws p 0 h) at (current-at (state j ws .pattern) (s .current .on-pattern) p)
+
+pub text-word : (j : Job) (ws : List ℕ) (t : ℕ) → Space j ws → t < j .m → replaced (getD ws (j .n + t) 0) ≡ getD ws (j .n + t) 0
+text-word j ws t s h = rw (getD-take (j .m) (drop (j .n) ws) t 0 h, getD-drop (j .n) ws t 0) at (current-at (state j ws .text) (s .current .on-text) t)
 
 -- ---- the bounds
 -- After a tile the rows that it covers have bound 0, and the others have what they had.

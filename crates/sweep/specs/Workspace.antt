@@ -4,18 +4,19 @@ use Prim.Native.Nat.{ℕ, _+_, _*_, _≤_}
 use mathlib.Core.List.{List}
 use lib.ListN.{length, take, drop, getD}
 use Rattle.tiling.specs.Run.{mark}
-use Rattle.tiling.specs.Tiling.{State}
+use Rattle.tiling.specs.Tiling.{State, AllCurrent}
 use Rattle.sweep.specs.declared.Job.{Job}
-
--- What the checks leave of the lengths.
-pub record Space (j : Job) (ws : List ℕ) : Type 0 where
-  pub short-pattern : j .n ≤ 2048
-  pub short-text : j .m ≤ 2048
-  pub roomy : 4 * (j .n + j .m) ≤ length ws
 
 -- The two sequences with the words marked so far.
 abbrev pub state : Job → List ℕ → State
 state j ws = record { pattern = take (j .n) ws; text = take (j .m) (drop (j .n) ws) }
+
+-- What the checks leave of the lengths; and no word of the sequences is a retired call, since they were replaced when they were copied in.
+pub record Space (j : Job) (ws : List ℕ) : Type 0 where
+  pub short-pattern : j .n ≤ 2048
+  pub short-text : j .m ≤ 2048
+  pub roomy : 4 * (j .n + j .m) ≤ length ws
+  pub current : AllCurrent (state j ws)
 
 -- A row is a position of the pattern; its bound is a length that no run of it exceeds.
 abbrev pub boundsFrom : Job → ℕ

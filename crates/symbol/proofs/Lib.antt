@@ -1,3 +1,4 @@
 pub mod Word
+pub mod Retired
 pub mod Sequence
 pub mod Refusal

@@ -1,4 +1,4 @@
--- What the later layers may know of words: a call is a word in one range of numbers, two words match just when they are equal calls, and the word 0, by which a marked word is written, matches nothing.
+-- Words as they stand: a call is a word in one range of numbers, and 01's match holds of two words just when they are equal calls.
 -- Assumes nothing.
 use Prim.Native.Nat.{ℕ, _≤_, _<_, _+_, _/_, _^_}
 use native.Mathlib.Omega.{arith}
@@ -7,7 +7,7 @@ use mathlib.Core.Bool.{Bool, true, false, _&&_, _||_, and-false}
 use lib.Bits.{bitOr, bitXor, or-add-and, xor-add-and, and-le-l, and-le-r, xor-self}
 use lib.Dec.{eqb}
 use borrow.Author.Tests.{eq-eqb, ne-eqb, lt-ltb, eqb-true, ltb-true}
-use Rattle.symbol.specs.Word.{kind, low, code, isCall, Call, isNoCall, isSound, matches}
+use Rattle.symbol.specs.Word.{kind, low, code, isCall, Call, isNoCall, isSound, equalCalls}
 
 -- ---- a conjunction of tests
 pub and-both : {a b : Bool} → a ≡ true → b ≡ true → (a && b) ≡ true
@@ -43,43 +43,31 @@ call-range w e =
     let l : low w < 2 ^ 16 = ltb-true _ _ (and-right (eqb (kind w) 1) _ e) in
     record { least = omega arith; most = omega arith }
 
--- ---- matching
--- Words that match are equal calls.
-pub match-equal : (a b : ℕ) → matches a b ≡ true → a ≡ b
-unfolding matches code
-match-equal a b e =
+-- ---- equal calls
+pub calls-equal : (a b : ℕ) → equalCalls a b ≡ true → a ≡ b
+unfolding equalCalls code
+calls-equal a b e =
     let x = call-range a (and-left (isCall a) (isCall b) (and-left _ _ e)) in
     let y = call-range b (and-right (isCall a) (isCall b) (and-left _ _ e)) in
     let z : code a ≡ code b = eqb-true _ _ (and-right (isCall a && isCall b) _ e) in
     omega (arith, x, y, z)
 
-pub match-call : (a b : ℕ) → matches a b ≡ true → isCall a ≡ true
-unfolding matches
-match-call a b e = and-left (isCall a) (isCall b) (and-left _ _ e)
+pub calls-call : (a b : ℕ) → equalCalls a b ≡ true → isCall a ≡ true
+unfolding equalCalls
+calls-call a b e = and-left (isCall a) (isCall b) (and-left _ _ e)
 
--- A call matches itself.
-pub match-self : (a : ℕ) → isCall a ≡ true → matches a a ≡ true
-unfolding matches
-match-self a e = rw (e, eq-eqb (code a) (code a) refl)
+pub calls-self : (a : ℕ) → isCall a ≡ true → equalCalls a a ≡ true
+unfolding equalCalls
+calls-self a e = rw (e, eq-eqb (code a) (code a) refl)
 
-pub match-swap : (a b : ℕ) → matches a b ≡ true → matches b a ≡ true
-match-swap a b e = rw (← match-equal a b e) (match-self a (match-call a b e))
+-- Any other word is unlike every word, the word 0 and the no-call among them.
+pub no-call-left : (a b : ℕ) → isCall a ≡ false → equalCalls a b ≡ false
+unfolding equalCalls
+no-call-left a b e = rw e
 
--- Other words match nothing, the word 0 and the no-call among them.
-pub no-match-left : (a b : ℕ) → isCall a ≡ false → matches a b ≡ false
-unfolding matches
-no-match-left a b e = rw e
-
-pub no-match-right : (a b : ℕ) → isCall b ≡ false → matches a b ≡ false
-unfolding matches
-no-match-right a b e = rw (e, and-false (isCall a))
-
-pub no-match-differ : (a b : ℕ) → (a ≡ b → ⊥) → matches a b ≡ false
-no-match-differ a b d = go (matches a b) refl
-  where
-    go : (t : Bool) → matches a b ≡ t → matches a b ≡ false
-    go true e = absurd (d (match-equal a b e))
-    go false e = e
+pub no-call-right : (a b : ℕ) → isCall b ≡ false → equalCalls a b ≡ false
+unfolding equalCalls
+no-call-right a b e = rw (e, and-false (isCall a))
 
 -- ---- what the code tests: a number that is 0 just where both of its parts are, and a part that is 0 just where two words are equal
 or-zero : (x y : ℕ) → bitOr x y ≡ 0 → (x ≡ 0) × (y ≡ 0)
@@ -118,14 +106,14 @@ pub sound-test : (w : ℕ) (r : Bool) → r ≡ isCall w → (r || eqb w (2 ^ 31
 unfolding isSound
 sound-test w r e = rw (e, no-call-test w)
 
-pub match-test : (a b : ℕ) → eqb (bitOr (bitXor a b) (bitXor (a / 0x1_0000) 0x4000)) 0 ≡ matches a b
-match-test a b = same _ _ there back
+pub calls-test : (a b : ℕ) → eqb (bitOr (bitXor a b) (bitXor (a / 0x1_0000) 0x4000)) 0 ≡ equalCalls a b
+calls-test a b = same _ _ there back
   where
-    there : eqb (bitOr (bitXor a b) (bitXor (a / 0x1_0000) 0x4000)) 0 ≡ true → matches a b ≡ true
+    there : eqb (bitOr (bitXor a b) (bitXor (a / 0x1_0000) 0x4000)) 0 ≡ true → equalCalls a b ≡ true
     there e =
         let z = or-zero _ _ (eqb-true _ _ e) in
         let equal : a ≡ b = xor-zero _ _ (z .0) in
-        rw (← equal) (match-self a (half-call a (xor-zero _ _ (z .1))))
+        rw (← equal) (calls-self a (half-call a (xor-zero _ _ (z .1))))
 
-    back : matches a b ≡ true → eqb (bitOr (bitXor a b) (bitXor (a / 0x1_0000) 0x4000)) 0 ≡ true
-    back e = rw (xor-equal a b (match-equal a b e), xor-equal _ _ (call-half a (match-call a b e)))
+    back : equalCalls a b ≡ true → eqb (bitOr (bitXor a b) (bitXor (a / 0x1_0000) 0x4000)) 0 ≡ true
+    back e = rw (xor-equal a b (calls-equal a b e), xor-equal _ _ (call-half a (calls-call a b e)))

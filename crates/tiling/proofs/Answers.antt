@@ -9,11 +9,12 @@ use lib.ListN.{length, replicate}
 use Rattle.symbol.specs.Refusal.{outcome}
 use Rattle.tiling.specs.Each.{Each, none}
 use Rattle.tiling.specs.Greedy.{Begins}
-use Rattle.tiling.specs.Listing.{Entry, listing, covered}
+use Rattle.tiling.specs.Listing.{Entry, listing, outsideListing, covered}
 use Rattle.tiling.specs.Comparing.{Comparable}
 use Rattle.tiling.specs.declared.Compared.{Compared}
 use Rattle.tiling.specs.Answer.{compared, tileBuffer, Compares}
 use Rattle.tiling.specs.Demand.{long, exchanged, EqualStarts, tilesIn, tilesOf, Tiled, Demands, Exchanges}
+use Rattle.tiling.proofs.Replaced.{listing-outside}
 use Rattle.tiling.proofs.Demand.{listing-tiled, listing-begins, equal-starts, exchange, exchange-count, exchange-covered, exchange-score}
 use Rattle.tiling.proofs.Shift.{tiled-shift}
 use Rattle.tiling.proofs.Tiles.{tiles-read}
@@ -39,6 +40,10 @@ module _ {r : ℕ} {first second : List ℕ} {minimum : ℕ} {ws b : List ℕ} {
 
   pub answers-listed : tilesOf a b' ≡ listing first second minimum
   answers-listed = rw answers-number at (listed c)
+
+  -- They are the tiles of an outside comparison.
+  pub answers-outside : tilesOf a b' ≡ outsideListing first second minimum
+  answers-outside = answers-listed ∙ sym (listing-outside first second minimum)
 
   pub answers-covered : a .covered ≡ covered (listing first second minimum)
   answers-covered = ap (λ x. x .covered) answer-is

@@ -7,7 +7,7 @@ use native.Mathlib.Omega.{arith}
 use mathlib.Core.Path.{_≡_, refl, sym}
 use lib.ListN.{length, drop, drop-of-length-le}
 use Rattle.tiling.specs.Run.{leading}
-use Rattle.tiling.specs.Tiling.{Tile, State, runAt, bestText, rowLength, best, Best}
+use Rattle.tiling.specs.Tiling.{Tile, State, runAt, bestTextBy, bestText, rowLengthBy, rowLength, bestBy, best, Best}
 use Rattle.tiling.proofs.Leading.{leading-nil}
 use Rattle.tiling.proofs.Peak.{peak-is}
 
@@ -21,7 +21,7 @@ past-text s p t h = rw (drop-of-length-le (s .text) h) (leading-nil _ (drop p (s
 
 -- The longest run of a row, and the first of them.
 pub row-most : (s : State) (p t : ℕ) → runAt s p t ≤ rowLength s p
-unfolding rowLength bestText
+unfolding rowLengthBy bestTextBy
 row-most s p t = go (decLt t (length (s .text)))
   where
     go : Dec (t < length (s .text)) → runAt s p t ≤ rowLength s p
@@ -29,11 +29,11 @@ row-most s p t = go (decLt t (length (s .text)))
     go (no h) = omega (arith, past-text s p t (omega (arith, h)))
 
 pub row-first : (s : State) (p t : ℕ) → t < bestText s p → runAt s p t < rowLength s p
-unfolding rowLength bestText
+unfolding rowLengthBy bestTextBy
 row-first s p t h = peak-is (runAt s p) (length (s .text)) .first t h
 
 pub best-is : (s : State) → Best s (best s)
-unfolding best rowLength
+unfolding bestBy rowLengthBy
 best-is s =
     record {
       long = long;

@@ -1,4 +1,4 @@
--- Calls counted code by code. The tiles take the same calls from both sequences; a code of which a call is left on both sides is a run
+-- Calls counted code by code, by replaced codes. The tiles take the same calls from both sequences; a code of which a call is left on both sides is a run
 -- of length 1; so at minimum 1 the tiles take the smaller number of each code, and all codes together are all words that they take.
 -- Assumes nothing.
 use Prim.Native.Nat.{ℕ, zero, suc, _+_, _≤_, _<_, _^_, min}
@@ -11,8 +11,9 @@ use borrow.Author.Tests.{eq-eqb, eqb-true, lt-ltb, le-ltb, ne-eqb}
 use lib.Dec.{eqb, ltb}
 use lib.ListN.{drop, getD}
 use lib.Seq.{getD-drop}
-use Rattle.symbol.specs.Word.{isCall, code, matches}
+use Rattle.symbol.specs.Word.{isCall, code, replaced, equalCalls, matches}
 use Rattle.symbol.proofs.Word.{and-both, and-left, and-right}
+use Rattle.symbol.proofs.Retired.{replaced-twice, call-replaced}
 use Rattle.tiling.specs.Tally.{one, tally}
 use Rattle.tiling.specs.Greedy.{after}
 use Rattle.tiling.specs.Tiling.{State, runAt, lay, tiling}
@@ -31,31 +32,37 @@ smaller-same f s f' s' h (suc n) = rw (h n, smaller-same f s f' s' h n) refl
 
 -- A sequence with itself: all calls with a code below n.
 abbrev below : ℕ → ℕ → Bool
-below n w = isCall w && ltb (code w) n
+below n w = isCall w && ltb (code (replaced w)) n
 
-one-more : (n w : ℕ) (b : Bool) → one (b && eqb (code w) n) + one (b && ltb (code w) n) ≡ one (b && ltb (code w) (suc n))
-one-more n w false = refl
-one-more n w true = low (decLe (code w) n) (decLe n (code w))
+one-more : (n c : ℕ) (b : Bool) → one (b && eqb c n) + one (b && ltb c n) ≡ one (b && ltb c (suc n))
+one-more n c false = refl
+one-more n c true = low (decLe c n) (decLe n c)
   where
-    low : Dec (code w ≤ n) → Dec (n ≤ code w) → one (eqb (code w) n) + one (ltb (code w) n) ≡ one (ltb (code w) (suc n))
-    low (yes h) (yes k) = rw (eq-eqb (code w) n (omega (arith, h, k)), le-ltb (code w) n k, lt-ltb (code w) (suc n) (omega (arith, h))) refl
-    low (yes h) (no k) = rw (ne-eqb (code w) n (λ e. k (omega (arith, e))), lt-ltb (code w) n (omega (arith, k)), lt-ltb (code w) (suc n) (omega (arith, h))) refl
-    low (no h) k = rw (ne-eqb (code w) n (λ e. h (omega (arith, e))), le-ltb (code w) n (omega (arith, h)), le-ltb (code w) (suc n) (omega (arith, h))) refl
+    low : Dec (c ≤ n) → Dec (n ≤ c) → one (eqb c n) + one (ltb c n) ≡ one (ltb c (suc n))
+    low (yes h) (yes k) = rw (eq-eqb c n (omega (arith, h, k)), le-ltb c n k, lt-ltb c (suc n) (omega (arith, h))) refl
+    low (yes h) (no k) = rw (ne-eqb c n (λ e. k (omega (arith, e))), lt-ltb c n (omega (arith, k)), lt-ltb c (suc n) (omega (arith, h))) refl
+    low (no h) k = rw (ne-eqb c n (λ e. h (omega (arith, e))), le-ltb c n (omega (arith, h)), le-ltb c (suc n) (omega (arith, h))) refl
 
 calls-below : (n : ℕ) (ws : List ℕ) → smallerCounts n ws ws ≡ tally (below n) ws
 unfolding smallerCounts
-calls-below zero ws = sym (tally-none (λ w. rw (le-ltb (code w) 0 (omega arith)) (and-false (isCall w))) ws)
-calls-below (suc n) ws = omega (arith, calls-below n ws, tally-add (isCallWith n) (below n) (below (suc n)) (λ w. one-more n w (isCall w)) ws)
+calls-below zero ws = sym (tally-none (λ w. rw (le-ltb (code (replaced w)) 0 (omega arith)) (and-false (isCall w))) ws)
+calls-below (suc n) ws = omega (arith, calls-below n ws, tally-add (isCallWith n) (below n) (below (suc n)) (λ w. one-more n (code (replaced w)) (isCall w)) ws)
 
 all-calls : (n : ℕ) → ((w : ℕ) → code w < n) → (ws : List ℕ) → smallerCounts n ws ws ≡ tally isCall ws
-all-calls n h ws = calls-below n ws ∙ tally-same (λ w. rw (lt-ltb (code w) n (h w)) (and-true (isCall w))) ws
+all-calls n h ws = calls-below n ws ∙ tally-same (λ w. rw (lt-ltb (code (replaced w)) n (h (replaced w))) (and-true (isCall w))) ws
 
 -- ---- no code is left on both sides where no run is left
 same-code : (c a b : ℕ) → isCallWith c a ≡ true → isCallWith c b ≡ true → matches a b ≡ true
-unfolding matches
+unfolding matches equalCalls
 same-code c a b x y =
-    let e : code a ≡ code b = eqb-true _ _ (and-right (isCall a) _ x) ∙ sym (eqb-true _ _ (and-right (isCall b) _ y)) in
-    and-both (and-both (and-left (isCall a) _ x) (and-left (isCall b) _ y)) (eq-eqb (code a) (code b) e)
+    let e : code (replaced a) ≡ code (replaced b) = eqb-true _ _ (and-right (isCall a) _ x) ∙ sym (eqb-true _ _ (and-right (isCall b) _ y)) in
+    and-both
+    (and-both (call-replaced a ∙ and-left (isCall a) _ x) (call-replaced b ∙ and-left (isCall b) _ y))
+    (eq-eqb (code (replaced a)) (code (replaced b)) e)
+
+-- Counting goes by replaced words, as matching does.
+pub with-replaced : (c w : ℕ) → isCallWith c (replaced w) ≡ isCallWith c w
+with-replaced c w = rw (replaced-twice w, call-replaced w) refl
 
 module _ (s : State) (no-run : (p t : ℕ) → runAt s p t < 1) (c : ℕ) where
   clash : Passes (isCallWith c) (s .pattern) → Passes (isCallWith c) (s .text) → ⊥
@@ -88,7 +95,7 @@ at-one n h s =
     smaller-same (r .words) (r .words) (s .pattern) (s .text)
     (λ c.
     let z : isCallWith c 0 ≡ false = rw zero-no-call refl in
-    omega (arith, r .from-pattern (isCallWith c) z, r .from-text (isCallWith c) z, none-left l (tiling-complete 1 (omega arith) s) c))
+    omega (arith, r .from-pattern (isCallWith c) z, r .from-text (isCallWith c) z (with-replaced c), none-left l (tiling-complete 1 (omega arith) s) c))
     n)
 
 pub code-below : (w : ℕ) → code w < 2 ^ 16

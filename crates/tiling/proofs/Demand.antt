@@ -11,7 +11,7 @@ use mathlib.Core.List.{List, [], _∷_, _++_, map, map-map, map-append}
 use mathlib.Core.Logic.{inl, inr}
 use lib.ListN.{length, drop, length-map}
 use lib.Seq.{getD-drop}
-use Rattle.symbol.proofs.Word.{match-swap}
+use Rattle.symbol.proofs.Retired.{match-swap}
 use Rattle.tiling.specs.Each.{Each, none, also, Pairs}
 use Rattle.tiling.specs.Greedy.{after, Begins}
 use Rattle.tiling.specs.Tiling.{Tile, Lies, start, size, lay, tiling}

@@ -8,10 +8,10 @@ use native.Mathlib.Omega.{arith}
 use mathlib.Core.Path.{_≡_, refl}
 use mathlib.Core.List.{List}
 use lib.ListN.{drop}
-use Rattle.symbol.proofs.Word.{match-call, match-self, match-swap}
+use Rattle.symbol.proofs.Retired.{match-call, match-self, match-swap}
 use Rattle.tiling.specs.Each.{Each}
 use Rattle.tiling.specs.Run.{run}
-use Rattle.tiling.specs.Tiling.{Tile, State, runAt, best, size, lay, tiling, start}
+use Rattle.tiling.specs.Tiling.{Tile, State, runAt, best, size, lay, tilingBy, tiling, start}
 use Rattle.tiling.proofs.Run.{run-match, run-least}
 use Rattle.tiling.proofs.Greedy.{greedy-each}
 use Rattle.tiling.proofs.Best.{best-is}
@@ -51,6 +51,6 @@ unfolding lay
 lay-itself s k e h = rw (e, h) refl
 
 pub tiling-itself : (minimum : ℕ) (s : List ℕ) → Each EqualPlaces (tiling minimum (start s s))
-unfolding tiling
+unfolding tilingBy
 tiling-itself minimum s =
     greedy-each best size lay Itself EqualPlaces best-itself (λ u e. lay-itself u (best u) e (best-itself u e)) _ minimum (start s s) refl

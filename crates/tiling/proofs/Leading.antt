@@ -2,8 +2,9 @@
 -- Assumes nothing.
 use Prim.Native.Nat.{ℕ, zero, suc, _+_, _≤_, _<_, min}
 use native.Mathlib.Nat.{not-suc-le-zero}
+use native.Mathlib.Decide.{decLe}
 use native.Mathlib.Omega.{arith}
-use mathlib.Core.Path.{_≡_, refl}
+use mathlib.Core.Path.{_≡_, refl, sym, _∙_}
 use mathlib.Core.Bool.{Bool, true, false}
 use mathlib.Core.List.{List, [], _∷_}
 use lib.ListN.{length, drop, getD}
@@ -57,6 +58,14 @@ module _ (test : ℕ → ℕ → Bool) where
       go : (leading test xs ys < min (length xs) (length ys) → test (getD xs (leading test xs ys) 0) (getD ys (leading test xs ys) 0) ≡ false) → (b : Bool) → test x y ≡ b → test (getD (x ∷ xs) (leading test (x ∷ xs) (y ∷ ys)) 0) (getD (y ∷ ys) (leading test (x ∷ xs) (y ∷ ys)) 0) ≡ false
       go f true e = let k = leading-cons x y xs ys e in rw k (f (omega (arith, k)))
       go f false e = rw (leading-none x y xs ys e) e
+
+  -- They end where two words do not pass, at the latest.
+  pub leading-most : (xs ys : List ℕ) (i : ℕ) → test (getD xs i 0) (getD ys i 0) ≡ false → leading test xs ys ≤ i
+  leading-most xs ys i e = go (decLe (leading test xs ys) i)
+    where
+      go : Dec (leading test xs ys ≤ i) → leading test xs ys ≤ i
+      go (yes k) = k
+      go (no k) = let f : true ≡ false = sym (leading-passes xs ys i (omega (arith, k))) ∙ e in let z : _≡_ {A = ℕ} 0 1 = cc in omega arith
 
   -- Those after the first n are those of what follows these.
   pub leading-after : (n : ℕ) (xs ys : List ℕ) → n ≤ leading test xs ys → leading test xs ys ≡ n + leading test (drop n xs) (drop n ys)

@@ -6,6 +6,7 @@ use native.Mathlib.Omega.{arith}
 use mathlib.Core.Path.{_≡_, refl}
 use mathlib.Core.List.{List, [], _∷_, _++_, map}
 use lib.ListN.{length}
+use Rattle.symbol.proofs.Retired.{call-replaced}
 use Rattle.symbol.specs.Word.{isCall}
 use Rattle.tiling.specs.Each.{Each, Pairs, no-pair, before}
 use Rattle.tiling.specs.Run.{mark}
@@ -119,4 +120,4 @@ covered-pattern minimum one s =
 pub covered-text : (minimum : ℕ) → 1 ≤ minimum → (s : State) → covered (map straight (tiling minimum s)) ≤ length (s .text)
 covered-text minimum one s =
     let r = tiling-takes minimum one s in
-    omega (arith, r .whole, r .from-text isCall zero-no-call, tally-length isCall (s .text))
+    omega (arith, r .whole, r .from-text isCall zero-no-call call-replaced, tally-length isCall (s .text))

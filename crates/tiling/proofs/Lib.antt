@@ -11,6 +11,7 @@ pub mod Covered
 pub mod Tiling
 pub mod Left
 pub mod Codes
+pub mod Replaced
 pub mod Choice
 pub mod Itself
 pub mod Demand

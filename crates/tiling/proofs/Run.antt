@@ -7,13 +7,14 @@ use native.Mathlib.Decide.{decLe, decLt}
 use native.Mathlib.Omega.{arith}
 use mathlib.Core.Path.{_≡_, refl, sym, _∙_, ap}
 use mathlib.Core.Bool.{true, false}
-use mathlib.Core.List.{List, [], _∷_}
-use lib.ListN.{length, getD, List·getD-eq-default}
-use Rattle.symbol.specs.Word.{matches}
-use Rattle.symbol.proofs.Word.{call-below, no-match-left, no-match-right, match-swap}
+use mathlib.Core.List.{List, [], _∷_, map}
+use lib.ListN.{length, take, getD, List·getD-eq-default}
+use Rattle.symbol.specs.Word.{replaced, matches}
+use Rattle.symbol.proofs.Word.{call-below}
+use Rattle.symbol.proofs.Retired.{no-match-left, no-match-right, match-equal, match-swap}
 use Rattle.tiling.specs.Run.{run, mark}
 use Rattle.tiling.specs.Demand.{Covers}
-use Rattle.tiling.proofs.Leading.{leading-within, leading-passes, leading-stops}
+use Rattle.tiling.proofs.Leading.{leading-within, leading-passes, leading-stops, leading-most}
 
 -- ---- the word 0
 pub zero-left : (w : ℕ) → matches 0 w ≡ false
@@ -56,11 +57,19 @@ run-least ps ts n h = go (decLe n (run ps ts))
 
 -- It ends where two words do not match, at the latest.
 pub run-most : (ps ts : List ℕ) (i : ℕ) → matches (getD ps i 0) (getD ts i 0) ≡ false → run ps ts ≤ i
-run-most ps ts i e = go (decLe (run ps ts) i)
-  where
-    go : Dec (run ps ts ≤ i) → run ps ts ≤ i
-    go (yes k) = k
-    go (no k) = let f : true ≡ false = sym (run-match ps ts i (omega (arith, k))) ∙ e in let z : _≡_ {A = ℕ} 0 1 = cc in omega arith
+run-most = leading-most matches
+
+-- Words that match one by one are the same once they are replaced.
+pub match-words : (ps ts : List ℕ) (n : ℕ) → n ≤ length ps → n ≤ length ts → ((i : ℕ) → i < n → matches (getD ps i 0) (getD ts i 0) ≡ true) → map replaced (take n ps) ≡ map replaced (take n ts)
+match-words ps ts zero h k m = refl
+match-words [] ts (suc n) h k m = absurd (not-suc-le-zero h)
+match-words (p ∷ ps) [] (suc n) h k m = absurd (not-suc-le-zero k)
+match-words (p ∷ ps) (t ∷ ts) (suc n) h k m =
+    let rest = match-words ps ts n (le-of-suc-le-suc h) (le-of-suc-le-suc k) (λ i l. m (suc i) (omega arith)) in
+    rw (match-equal p t (m 0 (omega arith)), rest) refl
+
+pub run-words : (ps ts : List ℕ) (n : ℕ) → n ≤ run ps ts → map replaced (take n ps) ≡ map replaced (take n ts)
+run-words ps ts n h = match-words ps ts n (omega (arith, run-within ps ts)) (omega (arith, run-within ps ts)) (λ i l. run-match ps ts i (omega arith))
 
 -- ---- marking
 pub length-mark : (i n : ℕ) (xs : List ℕ) → length (mark i n xs) ≡ length xs

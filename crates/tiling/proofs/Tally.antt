@@ -6,7 +6,7 @@ use native.Mathlib.Nat.{not-suc-le-zero, le-of-suc-le-suc}
 use native.Mathlib.Omega.{arith}
 use mathlib.Core.Path.{_≡_, refl}
 use mathlib.Core.Bool.{Bool, true, false}
-use mathlib.Core.List.{List, [], _∷_, _++_}
+use mathlib.Core.List.{List, [], _∷_, _++_, map}
 use lib.ListN.{length, take, drop, getD}
 use lib.Seq.{take-nil, drop-nil}
 use Rattle.tiling.specs.Tally.{one, tally}
@@ -43,6 +43,12 @@ module _ (test : ℕ → Bool) where
   unfolding tally
   tally-append [] ys = omega arith
   tally-append (x ∷ xs) ys = omega (arith, tally-append xs ys)
+
+  -- Words may be exchanged for others that pass where they do.
+  pub tally-map : (f : ℕ → ℕ) → ((w : ℕ) → test (f w) ≡ test w) → (xs : List ℕ) → tally test (map f xs) ≡ tally test xs
+  unfolding tally
+  tally-map f h [] = refl
+  tally-map f h (x ∷ xs) = rw (h x, tally-map f h xs) refl
 
   -- Where the count is not 0, some word passes.
   pub record Passes (xs : List ℕ) : Type 0 where

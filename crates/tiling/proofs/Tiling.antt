@@ -5,21 +5,22 @@
 use Prim.Native.Nat.{ℕ, _+_, _≤_, _<_}
 use native.Mathlib.Decide.{decLe}
 use native.Mathlib.Omega.{arith}
-use mathlib.Core.Path.{_≡_, refl, sym, _∙_}
+use mathlib.Core.Path.{_≡_, refl, sym, _∙_, ap}
 use mathlib.Core.Bool.{Bool, true, false}
-use mathlib.Core.List.{List, [], _∷_, _++_}
+use mathlib.Core.List.{List, [], _∷_, _++_, map}
 use borrow.Author.Tests.{le-leb, lt-leb}
 use lib.Dec.{leb}
-use lib.ListN.{length, take, drop, length-take, length-drop}
-use lib.Seq.{getD-drop, getD-take, ext-getD}
-use Rattle.symbol.specs.Word.{isCall}
-use Rattle.symbol.proofs.Word.{call-below, match-call, match-equal}
+use lib.ListN.{length, take, drop, length-drop}
+use lib.Seq.{getD-drop}
+use Rattle.symbol.specs.Word.{isCall, replaced}
+use Rattle.symbol.proofs.Word.{call-below}
+use Rattle.symbol.proofs.Retired.{match-call}
 use Rattle.tiling.specs.Each.{Each, none, also}
 use Rattle.tiling.specs.Tally.{tally}
 use Rattle.tiling.specs.Greedy.{Greedy, done, more}
-use Rattle.tiling.specs.Tiling.{Tile, State, best, Lies, size, lay, tiling}
-use Rattle.tiling.proofs.Run.{run-within, run-match}
-use Rattle.tiling.proofs.Tally.{tally-length, tally-mark, tally-all, tally-append}
+use Rattle.tiling.specs.Tiling.{Tile, State, best, Lies, size, lay, tilingBy, tiling}
+use Rattle.tiling.proofs.Run.{run-within, run-match, match-words}
+use Rattle.tiling.proofs.Tally.{tally-length, tally-mark, tally-all, tally-append, tally-map}
 use Rattle.tiling.proofs.Greedy.{only, greedy-meets}
 use Rattle.tiling.proofs.Best.{best-is}
 use Rattle.tiling.proofs.Marked.{Worked, worked-none, worked-lay, match-kept}
@@ -41,16 +42,20 @@ best-lies s h =
     }
 
 -- ---- what a tile takes
--- From s to s' these words were taken from each side; n of them are calls.
+-- A test of words that goes by replaced words, as the match does.
+abbrev pub ByReplaced : (ℕ → Bool) → Type 0
+ByReplaced test = (w : ℕ) → test (replaced w) ≡ test w
+
+-- From s to s' these words were taken from the pattern, and from the text words that match them; n of them are calls.
 pub record Takes (s s' : State) (n : ℕ) : Type 0 where
   pub words : List ℕ
   pub whole : tally isCall words ≡ n
   pub from-pattern : (test : ℕ → Bool) → test 0 ≡ false → tally test (s .pattern) ≡ tally test (s' .pattern) + tally test words
-  pub from-text : (test : ℕ → Bool) → test 0 ≡ false → tally test (s .text) ≡ tally test (s' .text) + tally test words
+  pub from-text : (test : ℕ → Bool) → test 0 ≡ false → ByReplaced test → tally test (s .text) ≡ tally test (s' .text) + tally test words
 
 pub takes-none : (s : State) → Takes s s 0
 unfolding tally
-takes-none s = record { words = []; whole = refl; from-pattern = λ test z. omega arith; from-text = λ test z. omega arith }
+takes-none s = record { words = []; whole = refl; from-pattern = λ test z. omega arith; from-text = λ test z r. omega arith }
 
 pub takes-more : (s₀ s s' : State) (m n : ℕ) → Takes s₀ s m → Takes s s' n → Takes s₀ s' (m + n)
 takes-more s₀ s s' m n a b =
@@ -58,21 +63,20 @@ takes-more s₀ s s' m n a b =
       words = a .words ++ b .words;
       whole = omega (arith, tally-append isCall (a .words) (b .words), a .whole, b .whole);
       from-pattern = λ test z. omega (arith, tally-append test (a .words) (b .words), a .from-pattern test z, b .from-pattern test z);
-      from-text = λ test z. omega (arith, tally-append test (a .words) (b .words), a .from-text test z, b .from-text test z);
+      from-text = λ test z r. omega (arith, tally-append test (a .words) (b .words), a .from-text test z r, b .from-text test z r);
     }
 
--- The words of a tile are the same on both sides, and calls.
-same-words : (s : State) (k : Tile) → Lies s k → take (k .len) (drop (k .t) (s .text)) ≡ take (k .len) (drop (k .p) (s .pattern))
+-- The words of a tile are calls, and once they are replaced the same on both sides.
+same-words : (s : State) (k : Tile) → Lies s k → map replaced (take (k .len) (drop (k .p) (s .pattern))) ≡ map replaced (take (k .len) (drop (k .t) (s .text)))
 same-words s k l =
-    let xs = drop (k .t) (s .text) in
-    let ys = drop (k .p) (s .pattern) in
-    let a : length (take (k .len) xs) ≡ k .len = omega (arith, length-take (k .len) xs, length-drop (k .t) (s .text), l .in-text) in
-    let b : length (take (k .len) ys) ≡ k .len = omega (arith, length-take (k .len) ys, length-drop (k .p) (s .pattern), l .in-pattern) in
-    ext-getD 0 (take (k .len) xs) (take (k .len) ys) (a ∙ sym b)
-    (λ i h.
-    let m : i < k .len = omega (arith, a, h) in
-    rw (getD-take (k .len) xs i 0 m, getD-take (k .len) ys i 0 m, getD-drop (k .t) (s .text) i 0, getD-drop (k .p) (s .pattern) i 0)
-    (sym (match-equal _ _ (l .matching i m))))
+    match-words (drop (k .p) (s .pattern)) (drop (k .t) (s .text)) (k .len)
+    (omega (arith, length-drop (k .p) (s .pattern), l .in-pattern))
+    (omega (arith, length-drop (k .t) (s .text), l .in-text))
+    (λ i h. rw (getD-drop (k .p) (s .pattern) i 0, getD-drop (k .t) (s .text) i 0) (l .matching i h))
+
+-- So a test that goes by replaced words counts as many on either side.
+same-count : (s : State) (k : Tile) → Lies s k → (test : ℕ → Bool) → ByReplaced test → tally test (take (k .len) (drop (k .p) (s .pattern))) ≡ tally test (take (k .len) (drop (k .t) (s .text)))
+same-count s k l test r = sym (tally-map test replaced r _) ∙ (ap (tally test) (same-words s k l) ∙ tally-map test replaced r _)
 
 pub takes-tile : (s : State) (k : Tile) → Lies s k → Takes s (lay s k) (k .len)
 unfolding lay
@@ -83,7 +87,7 @@ takes-tile s k l =
           tally-all isCall (k .len) (drop (k .p) (s .pattern)) (omega (arith, length-drop (k .p) (s .pattern), l .in-pattern))
           (λ i m. rw (getD-drop (k .p) (s .pattern) i 0) (match-call _ _ (l .matching i m)));
       from-pattern = λ test z. tally-mark test z (k .p) (k .len) (s .pattern);
-      from-text = λ test z. rw (← same-words s k l) (tally-mark test z (k .t) (k .len) (s .text));
+      from-text = λ test z r. rw (same-count s k l test r) (tally-mark test z (k .t) (k .len) (s .text));
     }
 
 -- ---- the fuel suffices
@@ -99,7 +103,7 @@ calls-fall s h = let r = takes-tile s (best s) (best-lies s h) in omega (arith, 
 
 -- The tiling is what the greedy choice lays, whatever the fuel.
 pub tiling-greedy : (minimum : ℕ) → 1 ≤ minimum → (s : State) → Greedy best size lay minimum s (tiling minimum s)
-unfolding tiling
+unfolding tilingBy
 tiling-greedy minimum one s = greedy-meets best size lay calls calls-fall minimum one (length (s .pattern)) s (tally-length isCall (s .pattern))
 
 -- The tiling's equation: the best is laid and then what is left is tiled, or nothing long enough is left.

@@ -7,7 +7,7 @@ use lib.Dec.{eqb}
 use lib.IntN.{pos, negℤ}
 use lib.Signed.{_≤ℤ_}
 use lib.ListN.{length, getD, drop}
-use Rattle.symbol.specs.Word.{isCall, code, matches}
+use Rattle.symbol.specs.Word.{isCall, code, replaced, matches}
 use Rattle.tiling.specs.Each.{Each, Pairs}
 use Rattle.tiling.specs.Tally.{tally}
 use Rattle.tiling.specs.Listing.{Entry, covered, score, shift}
@@ -59,9 +59,10 @@ pub record Shifted (e : Entry) : Type 0 where
   pub least : negℤ (pos 2047) ≤ℤ shift e
   pub most : shift e ≤ℤ pos 2047
 
--- "A code's number of calls on a strand counts the words there that are calls with it."
+-- "A code's number of calls on a strand counts the words there that are calls with it." (01) "the count of calls at minimum 1 goes by replaced
+-- codes." (02, U4)
 abbrev pub isCallWith : ℕ → ℕ → Bool
-isCallWith c w = isCall w && eqb (code w) c
+isCallWith c w = isCall w && eqb (code (replaced w)) c
 
 abbrev pub callsWith : ℕ → List ℕ → ℕ
 callsWith c s = tally (isCallWith c) s

@@ -1,44 +1,50 @@
 -- The pairs K1 to K11 and the windows K12 of 01 as one list of cases, and the test that each comes out as written. The cases after them
 -- are ours: the shifts of 01's worked example, a pair that would come out otherwise if the text were not marked, pairs of equal length,
--- in which the words choose the pattern, choices by themselves, and matches of words at the ends of each kind.
+-- in which the words choose the pattern, choices by themselves, matches of words at the ends of each kind, and retired codes.
 use Prim.Native.Nat.{ℕ, _+_, _^_}
 use mathlib.Core.Bool.{Bool, true, false, not, _&&_}
 use mathlib.Core.List.{List, [], _∷_}
 use lib.Dec.{eqb}
 use lib.IntN.{ℤ, pos, negsuc, negℤ}
 use lib.ListN.{length}
-use Rattle.symbol.specs.Word.{matches}
+use Rattle.symbol.specs.Word.{replaced, matches}
 use Rattle.window.specs.HashList.{hashes}
 use Rattle.tiling.specs.Choice.{firstIsPattern}
 use Rattle.tiling.specs.Listing.{Entry, listing, tileWords, covered, score, shift}
 
+-- The call of a code.
+abbrev pub call : ℕ → ℕ
+call c = 2 ^ 30 + c
+
 -- "Writing a to d for calls of codes 1 to 4 .. e is code 5, ? a no-call."
 abbrev pub a : ℕ
-a = 2 ^ 30 + 1
+a = call 1
 
 abbrev pub b : ℕ
-b = 2 ^ 30 + 2
+b = call 2
 
 abbrev pub c : ℕ
-c = 2 ^ 30 + 3
+c = call 3
 
 abbrev pub d : ℕ
-d = 2 ^ 30 + 4
+d = call 4
 
 abbrev pub e : ℕ
-e = 2 ^ 30 + 5
+e = call 5
 
 abbrev pub no-call : ℕ
 no-call = 2 ^ 31
 
 -- A pair with its minimum: the words of its tile buffer, covered and score, or the shifts of its tiles. Words with a multiplier and a
--- window length: the hashes of their windows. A pair: whether its first sequence is the pattern. Two words: whether they match.
+-- window length: the hashes of their windows. A pair: whether its first sequence is the pattern. Two words: whether they match. A word, and
+-- what it is replaced by.
 pub data Case : Type 0 where
   pair : (first second : List ℕ) (minimum : ℕ) (tiles : List ℕ) (covered score : ℕ) → Case
   moved : (first second : List ℕ) (minimum : ℕ) (shifts : List ℤ) → Case
   hashed : (multiplier window : ℕ) (words found : List ℕ) → Case
   chosen : (first second : List ℕ) (first-is-pattern : Bool) → Case
   matched : (x y : ℕ) (they-match : Bool) → Case
+  stands-for : (x y : ℕ) → Case
 
 unfoldable pub same : List ℕ → List ℕ → Bool
 same [] [] = true
@@ -69,6 +75,7 @@ holds (chosen first second true) = firstIsPattern first second
 holds (chosen first second false) = not (firstIsPattern first second)
 holds (matched x y true) = matches x y
 holds (matched x y false) = not (matches x y)
+holds (stands-for x y) = eqb (replaced x) y
 
 unfoldable pub all-hold : List Case → Bool
 all-hold [] = true
@@ -122,4 +129,23 @@ cases =
     ∷ matched 0x8000_0001 0x8000_0001 false
     ∷ matched 0xffff_ffff 0xffff_ffff false
     ∷ matched 0 0 false  -- two marked words
+    ∷ stands-for (call 64999) (call 64999)  -- the codes on either side are not retired
+    ∷ stands-for (call 65000) (call 11)
+    ∷ stands-for (call 65015) (call 1024)
+    ∷ stands-for (call 65016) (call 65016)
+    ∷ stands-for 0x4001_fde8 0x4001_fde8  -- words with the lower bits of 65,000 that are no calls
+    ∷ stands-for 0x0000_fde8 0x0000_fde8
+    ∷ stands-for 0x8000_fde8 0x8000_fde8
+    ∷ matched (call 65000) (call 11) true
+    ∷ matched (call 1024) (call 65015) true
+    ∷ matched (call 65000) (call 65000) true
+    ∷ matched (call 65000) (call 65001) false
+    ∷ matched (call 65001) (call 65002) true  -- both stand for 14
+    ∷ matched (call 65005) (call 65007) true  -- both stand for 52
+    ∷ matched (call 65007) (call 65008) false
+    ∷ matched 0x8000_fde8 (call 11) false
+    ∷ chosen (call 65000 ∷ call 12 ∷ []) (call 12 ∷ call 11 ∷ []) false  -- the words as handed in choose: [65000 12] and [12 11]
+    ∷ pair (call 65000 ∷ call 12 ∷ []) (call 12 ∷ call 11 ∷ []) 1 (1 ∷ 0 ∷ 1 ∷ 0 ∷ 1 ∷ 1 ∷ []) 2 1000
+    ∷ pair (a ∷ call 65000 ∷ call 65001 ∷ call 52 ∷ []) (call 11 ∷ call 65002 ∷ call 65007 ∷ []) 3 (1 ∷ 0 ∷ 3 ∷ []) 3 857
+    ∷ hashed 10 2 (call 65000 ∷ call 11 ∷ call 64999 ∷ call 65005 ∷ []) (3221225593 ∷ 3221290581 ∷ 3221875514 ∷ [])
     ∷ []

@@ -3,7 +3,8 @@ use Prim.Native.Nat.{ℕ, zero, suc, _+_, _*_, _/_}
 use mathlib.Core.Bool.{true, false}
 use mathlib.Core.List.{List, [], _∷_, map}
 use lib.IntN.{ℤ, pos, _-ℤ_}
-use Rattle.tiling.specs.Tiling.{Tile, start, tiling}
+use Rattle.symbol.specs.Word.{replaced, equalCalls}
+use Rattle.tiling.specs.Tiling.{Tile, start, tilingBy, tiling}
 use Rattle.tiling.specs.Choice.{firstIsPattern}
 
 -- A listed tile: "start on the first strand, start on the second strand, length. First and second mean as handed in, not
@@ -23,6 +24,15 @@ unfoldable pub listing : List ℕ → List ℕ → ℕ → List Entry
 listing first second minimum =
     elim (firstIsPattern first second)
     [ true ↦ map straight (tiling minimum (start first second)) | false ↦ map crossed (tiling minimum (start second first)) ]
+
+-- "An outside comparison runs on strands replaced beforehand, except for the choice of pattern." (02, U4) It knows 01's match alone, and no
+-- retired code.
+unfoldable pub outsideListing : List ℕ → List ℕ → ℕ → List Entry
+outsideListing first second minimum =
+    elim (firstIsPattern first second) [
+      | true ↦ map straight (tilingBy equalCalls minimum (start (map replaced first) (map replaced second)))
+      | false ↦ map crossed (tilingBy equalCalls minimum (start (map replaced second) (map replaced first)))
+    ]
 
 -- "A tile is three words in the tile buffer", in the order laid.
 unfoldable pub tileWords : List Entry → List ℕ

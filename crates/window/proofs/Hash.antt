@@ -1,4 +1,4 @@
--- The hash of a window, word by word. One more word multiplies what is there by B and adds the word (Horner's rule); the
+-- The hash of a window of words as they stand, word by word. One more word multiplies what is there by B and adds the word (Horner's rule); the
 -- first word's share is the word times a power of B, so it can be taken out again; and since sums and products keep
 -- congruence, each step may wrap.
 -- Assumes nothing.
@@ -7,10 +7,12 @@ use native.Mathlib.Nat.{mul-le-mul, mod-add-mod, mul-assoc, add-mul, add-comm, a
 use native.Mathlib.Omega.{arith}
 use native.Mathlib.Numerals.{add-one}
 use mathlib.Core.Path.{_≡_, refl, sym, _∙_}
-use mathlib.Core.List.{List, [], _∷_, _++_}
-use lib.ListN.{length, take, getD, length-append}
+use mathlib.Core.List.{List, [], _∷_, _++_, map}
+use lib.ListN.{length, take, getD, length-append, length-map}
 use lib.Seq.{take-suc, take-all}
-use Rattle.window.specs.Hash.{weigh, hash}
+use Rattle.symbol.specs.Word.{replaced}
+use Rattle.symbol.proofs.Sequence.{getD-replaced}
+use Rattle.window.specs.Hash.{weigh, wordsHash, hash}
 use Rattle.window.proofs.Congruence.{Congruent, congruent-refl, congruent-sym, congruent-trans, congruent-mod, congruent-add, congruent-mul, congruent-cancel}
 
 -- The product of two words fits 64 bits.
@@ -27,21 +29,21 @@ weigh-more B (w ∷ ws) x =
     let n : length (ws ++ (x ∷ [])) ≡ suc (length ws) = simp length-append (add-one (length ws)) in
     rw (n, pow-suc B (length ws), weigh-more B ws x, add-mul, mul-assoc, add-assoc)
 
-hash-more : (B : ℕ) (ws : List ℕ) (h x : ℕ) → Congruent (2 ^ 32) h (weigh B ws) → hash B (ws ++ (x ∷ [])) ≡ (h * B + x) % 2 ^ 32
-unfolding hash
+hash-more : (B : ℕ) (ws : List ℕ) (h x : ℕ) → Congruent (2 ^ 32) h (weigh B ws) → wordsHash B (ws ++ (x ∷ [])) ≡ (h * B + x) % 2 ^ 32
+unfolding wordsHash
 hash-more B ws h x e = rw (weigh-more B ws x) (congruent-add (congruent-mul (congruent-sym e) congruent-refl) congruent-refl .same)
 
-pub horner : (B : ℕ) (ws : List ℕ) (x : ℕ) → hash B (ws ++ (x ∷ [])) ≡ (hash B ws * B + x) % 2 ^ 32
-unfolding hash
-horner B ws x = hash-more B ws (hash B ws) x (congruent-mod refl)
+pub horner : (B : ℕ) (ws : List ℕ) (x : ℕ) → wordsHash B (ws ++ (x ∷ [])) ≡ (wordsHash B ws * B + x) % 2 ^ 32
+unfolding wordsHash
+horner B ws x = hash-more B ws (wordsHash B ws) x (congruent-mod refl)
 
 -- The product may wrap before the sum does.
 wrapped : (h B x product r : ℕ) → product ≡ (h * B) % 2 ^ 32 → r ≡ (product + x) % 2 ^ 32 → r ≡ (h * B + x) % 2 ^ 32
 wrapped h B x product r p s = s ∙ rw p (mod-add-mod (h * B) (2 ^ 32) x)
 
 -- ---- the window one position on: the first word's share is taken out, and `rest` is congruent to what the other words weigh
-pub rolled : (B : ℕ) (ws : List ℕ) (h outgoing power share rest product incoming r : ℕ) → share ≡ (outgoing * power) % 2 ^ 32 → (rest + share) % 2 ^ 32 ≡ h → product ≡ (rest * B) % 2 ^ 32 → r ≡ (product + incoming) % 2 ^ 32 → h ≡ hash B (outgoing ∷ ws) → power ≡ B ^ length ws % 2 ^ 32 → r ≡ hash B (ws ++ (incoming ∷ []))
-unfolding hash weigh
+pub rolled : (B : ℕ) (ws : List ℕ) (h outgoing power share rest product incoming r : ℕ) → share ≡ (outgoing * power) % 2 ^ 32 → (rest + share) % 2 ^ 32 ≡ h → product ≡ (rest * B) % 2 ^ 32 → r ≡ (product + incoming) % 2 ^ 32 → h ≡ wordsHash B (outgoing ∷ ws) → power ≡ B ^ length ws % 2 ^ 32 → r ≡ wordsHash B (ws ++ (incoming ∷ []))
+unfolding wordsHash weigh
 rolled B ws h outgoing power share rest product incoming r sh re pr su e q =
     let first = outgoing * B ^ length ws in
     let taken : Congruent (2 ^ 32) share first = congruent-trans (congruent-mod sh) (congruent-mul congruent-refl (congruent-mod q)) in
@@ -71,10 +73,10 @@ raised-all B e p i inv h = let same : e ≡ i = omega (arith, inv .within) in rw
 -- ---- the loop of hash_of: h is the hash of the words before i
 pub record Hashed (B : ℕ) (ws : List ℕ) (h i : ℕ) : Type 0 where
   pub within : i ≤ length ws
-  pub held : h ≡ hash B (take i ws)
+  pub held : h ≡ wordsHash B (take i ws)
 
 pub hashed-none : (B : ℕ) (ws : List ℕ) → Hashed B ws 0 0
-unfolding hash weigh
+unfolding wordsHash weigh
 hashed-none B ws = record { within = omega arith; held = refl }
 
 pub hashed-more : (B : ℕ) (ws : List ℕ) (h product r i : ℕ) → Hashed B ws h i → i < length ws → product ≡ (h * B) % 2 ^ 32 → r ≡ (product + getD ws i 0) % 2 ^ 32 → Hashed B ws r (i + 1)
@@ -84,5 +86,13 @@ hashed-more B ws h product r i inv less p s =
       held = rw (add-one i, take-suc ws i 0 less, horner B (take i ws) (getD ws i 0), ← inv .held) (wrapped h B (getD ws i 0) product r p s);
     }
 
-pub hashed-all : (B : ℕ) (ws : List ℕ) (h i : ℕ) → Hashed B ws h i → length ws ≤ i → h ≡ hash B ws
+pub hashed-all : (B : ℕ) (ws : List ℕ) (h i : ℕ) → Hashed B ws h i → length ws ≤ i → h ≡ wordsHash B ws
 hashed-all B ws h i inv all = rw (take-all i ws all) at (inv .held)
+
+-- The same of replaced words.
+pub replaced-step : (B : ℕ) (ws : List ℕ) (h product w r i : ℕ) → Hashed B (map replaced ws) h i → i < length ws → product ≡ (h * B) % 2 ^ 32 → w ≡ replaced (getD ws i 0) → r ≡ (product + w) % 2 ^ 32 → Hashed B (map replaced ws) r (i + 1)
+replaced-step B ws h product w r i inv less p e s =
+    hashed-more B (map replaced ws) h product r i inv (rw (length-map ws replaced) less) p (rw (getD-replaced ws i, ← e) s)
+
+pub replaced-hash : (B : ℕ) (ws : List ℕ) (h i : ℕ) → Hashed B (map replaced ws) h i → length ws ≤ i → h ≡ hash B ws
+replaced-hash B ws h i inv all = hashed-all B (map replaced ws) h i inv (rw (length-map ws replaced) all)

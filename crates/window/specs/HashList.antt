@@ -17,9 +17,12 @@ windows s n = suc n - s
 abbrev pub hashAt : ℕ → ℕ → List ℕ → ℕ → ℕ
 hashAt B s words i = hash B (take s (drop i words))
 
--- "the hash at each place where a window fits"
+-- "the hash at each place where a window fits": by any hash of a window, and by that for a multiplier.
+abbrev pub hashesBy : (List ℕ → ℕ) → ℕ → List ℕ → List ℕ
+hashesBy h s words = tabulate (λ i. h (take s (drop i words))) (windows s (length words))
+
 abbrev pub hashes : ℕ → ℕ → List ℕ → List ℕ
-hashes B s words = tabulate (hashAt B s words) (windows s (length words))
+hashes B = hashesBy (hash B)
 
 -- "It checks 1, 2, 5, then 11."
 abbrev pub hashRefusal : List ℕ → ℕ → ℕ → ℕ

@@ -5,8 +5,8 @@ ghost use mathlib.Core.List.{List, [], _∷_, _++_};
 ghost use Prim.Native.Nat.{ℕ, _+_, _*_, _%_, _^_, _≤_, _<_};
 ghost use lib.ListN.{length, take, drop};
 ghost use Rattle.buffer.specs.Buffer.{onto};
-ghost use Rattle.window.specs.Hash.{hash};
-ghost use Rattle.window.specs.HashList.{windows, hashes, hashRefusal, hashAnswer, hashBuffer};
+ghost use Rattle.window.specs.Hash.{wordsHash, hash};
+ghost use Rattle.window.specs.HashList.{windows, hashesBy, hashes, hashRefusal, hashAnswer, hashBuffer};
 
 // a times b, modulo 2^32.
 fn wrapping_mul(a: u32, b: u32) -> u32
@@ -28,9 +28,9 @@ fn power(b: u32, e: usize) -> u32
     p
 }
 
-// The hash of a whole window.
+// The hash of a whole window of words as they stand.
 fn hash_of(b: u32, window: &[u32]) -> u32
-    ensures { λ r. ⌜ r ≡ hash b (now (window .entry)) ⌝ }
+    ensures { λ r. ⌜ r ≡ wordsHash b (now (window .entry)) ⌝ }
 {
     let mut h = 0;
     let mut i = 0;
@@ -41,10 +41,24 @@ fn hash_of(b: u32, window: &[u32]) -> u32
     h
 }
 
+// The hash of a whole window, whose words are replaced.
+fn replaced_hash(b: u32, window: &[u32]) -> u32
+    ensures { λ r. ⌜ r ≡ hash b (now (window .entry)) ⌝ }
+{
+    let mut h = 0;
+    let mut i = 0;
+    while i < window.len() {
+        let word = symbol::replaced(window[i]);
+        h = std::num::wrapping_add_u32(wrapping_mul(h, b), word);
+        i += 1;
+    }
+    h
+}
+
 // The hash of the window one position on: the outgoing word times the power is taken out, the rest is multiplied by b, and
 // the incoming word is added, each step wrapping at 2^32.
 fn roll(h: u32, outgoing: u32, power: u32, b: u32, incoming: u32) -> u32
-    ensures { λ r. ⌜ ((ws : List ℕ) → h ≡ hash b (outgoing ∷ ws) → power ≡ b ^ length ws % 2 ^ 32 → r ≡ hash b (ws ++ (incoming ∷ []))) ⌝ }
+    ensures { λ r. ⌜ ((ws : List ℕ) → h ≡ wordsHash b (outgoing ∷ ws) → power ≡ b ^ length ws % 2 ^ 32 → r ≡ wordsHash b (ws ++ (incoming ∷ []))) ⌝ }
 {
     let rest = std::num::wrapping_sub_u32(h, wrapping_mul(outgoing, power));
     std::num::wrapping_add_u32(wrapping_mul(rest, b), incoming)
@@ -59,21 +73,23 @@ fn fill_hashes(words: &[u32], b: u32, s: usize, buffer: &mut [u32])
         return;
     }
     let p = power(b, s - 1);
-    let mut h = hash_of(b, &words[0..s]);
+    let mut h = replaced_hash(b, &words[0..s]);
     let mut i = 0;
     while i + s < words.len() {
         buffer[i] = h;
-        h = roll(h, words[i], p, b, words[i + s]);
+        let outgoing = symbol::replaced(words[i]);
+        let incoming = symbol::replaced(words[i + s]);
+        h = roll(h, outgoing, p, b, incoming);
         i += 1;
     }
     buffer::put(buffer, i, h);
 }
 
 // Fills the part of the workspace after its first total words with the hash at each position of those where a window of s
-// words fits.
+// words fits. The words are hashed as they stand: in a workspace they are replaced already.
 pub fn hash_windows(ws: &mut [u32], total: usize, b: u32, s: usize)
     requires { ⌜ (1 ≤ s) × (total ≤ 4096) × (2 * total ≤ length (now ws)) ⌝ }
-    ensures { λ r. ⌜ now (ws .exit) ≡ take total (now (ws .entry)) ++ onto (hashes b s (take total (now (ws .entry)))) (drop total (now (ws .entry))) ⌝ }
+    ensures { λ r. ⌜ now (ws .exit) ≡ take total (now (ws .entry)) ++ onto (hashesBy (wordsHash b) s (take total (now (ws .entry)))) (drop total (now (ws .entry))) ⌝ }
 {
     if total < s {
         return;

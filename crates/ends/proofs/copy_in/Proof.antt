@@ -8,23 +8,23 @@ use Rattle.ends.proofs.copy_in.Tie as tie
 add-end : tie.Need-add-end
 add-end c = search needs
 
-copy-requires : tie.Need-copy-requires
-copy-requires c κs = search needs
+copy-replaced-requires : tie.Need-copy-replaced-requires
+copy-replaced-requires c κs = search needs
 
-mul-copy : tie.Need-mul-copy
-mul-copy c = search needs
+mul-copy-replaced : tie.Need-mul-copy-replaced
+mul-copy-replaced c = search needs
 
-sub-copy : tie.Need-sub-copy
-sub-copy c = search needs
+sub-copy-replaced : tie.Need-sub-copy-replaced
+sub-copy-replaced c = search needs
 
-part-copy-start : tie.Need-part-copy-start
-part-copy-start c = search needs
+part-copy-replaced-start : tie.Need-part-copy-replaced-start
+part-copy-replaced-start c = search needs
 
-part-copy-end : tie.Need-part-copy-end
-part-copy-end c = search needs
+part-copy-replaced-end : tie.Need-part-copy-replaced-end
+part-copy-replaced-end c = search needs
 
-copy-requires-2 : tie.Need-copy-requires-2
-copy-requires-2 c κs = search needs
+copy-replaced-requires-2 : tie.Need-copy-replaced-requires-2
+copy-replaced-requires-2 c κs = search needs
 
 same-length : tie.Need-same-length
 same-length c = search needs
@@ -37,11 +37,11 @@ copy-in-spec =
     tie.close
     (tie.spec
     add-end
-    copy-requires
-    mul-copy
-    sub-copy
-    part-copy-start
-    part-copy-end
-    copy-requires-2
+    copy-replaced-requires
+    mul-copy-replaced
+    sub-copy-replaced
+    part-copy-replaced-start
+    part-copy-replaced-end
+    copy-replaced-requires-2
     same-length
     returns)

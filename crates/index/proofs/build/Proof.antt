@@ -1,6 +1,6 @@
 -- `index::build` meets its contract: the hashes are those of the windows, and the links are then made from right to left.
 -- Assumes nothing.
-use Rattle.index.proofs.Windows.{built-all}
+use Rattle.index.proofs.Windows.{hashed-space, built-all}
 use borrow.Author.Needs.{needs}
 use Rattle.index.proofs.build.Statement.{statement}
 use Rattle.index.proofs.build.Tie as tie
@@ -12,7 +12,7 @@ hash-windows-requires : tie.Need-hash-windows-requires
 hash-windows-requires c κs = search needs
 
 link-windows-requires : tie.Need-link-windows-requires
-link-windows-requires c κs = search needs
+link-windows-requires c κs = search hashed-space
 
 same-length : tie.Need-same-length
 same-length c = search needs

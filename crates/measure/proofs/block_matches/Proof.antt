@@ -1,7 +1,7 @@
 -- `measure::block_matches` meets its contract: at the head of each turn `all` says whether the first i words match.
 -- Assumes nothing.
 use Prim.Native.Nat.{_-_}
-use Rattle.tiling.specs.Run.{run}
+use Rattle.tiling.specs.Run.{equalRun}
 use Rattle.measure.specs.Block.{block}
 use Rattle.measure.proofs.Blocks.{Tested, tested-none, tested-all}
 use Rattle.measure.proofs.Pairs.{pairs-tested}
@@ -10,7 +10,7 @@ use Rattle.measure.proofs.block_matches.Statement.{statement}
 use Rattle.measure.proofs.block_matches.Tie as tie
 
 abbrev Inv-loop : tie.InvT-loop
-Inv-loop pattern text all₀ i₀ all i = Tested (run pattern text) i all
+Inv-loop pattern text all₀ i₀ all i = Tested (equalRun pattern text) i all
 
 abbrev μ-loop : tie.MeasureT-loop
 μ-loop pattern text all₀ i₀ all i = block - i
@@ -18,20 +18,20 @@ abbrev μ-loop : tie.MeasureT-loop
 loop-holds : tie.Need-loop-holds Inv-loop μ-loop
 loop-holds c = search tested-none
 
-mul-words-match : tie.Need-mul-words-match Inv-loop μ-loop
-mul-words-match c = search needs
+mul-equal-calls : tie.Need-mul-equal-calls Inv-loop μ-loop
+mul-equal-calls c = search needs
 
-shared-slice-read-words-match : tie.Need-shared-slice-read-words-match Inv-loop μ-loop
-shared-slice-read-words-match c = search needs
+shared-slice-read-equal-calls : tie.Need-shared-slice-read-equal-calls Inv-loop μ-loop
+shared-slice-read-equal-calls c = search needs
 
-mul-words-match-2 : tie.Need-mul-words-match-2 Inv-loop μ-loop
-mul-words-match-2 c = search needs
+mul-equal-calls-2 : tie.Need-mul-equal-calls-2 Inv-loop μ-loop
+mul-equal-calls-2 c = search needs
 
-shared-slice-read-words-match-2 : tie.Need-shared-slice-read-words-match-2 Inv-loop μ-loop
-shared-slice-read-words-match-2 c = search needs
+shared-slice-read-equal-calls-2 : tie.Need-shared-slice-read-equal-calls-2 Inv-loop μ-loop
+shared-slice-read-equal-calls-2 c = search needs
 
-words-match-requires : tie.Need-words-match-requires Inv-loop μ-loop
-words-match-requires c κs = search needs
+equal-calls-requires : tie.Need-equal-calls-requires Inv-loop μ-loop
+equal-calls-requires c κs = search needs
 
 add-i : tie.Need-add-i Inv-loop μ-loop
 add-i c = search needs
@@ -52,11 +52,11 @@ block-matches-spec =
     Inv-loop
     μ-loop
     loop-holds
-    mul-words-match
-    shared-slice-read-words-match
-    mul-words-match-2
-    shared-slice-read-words-match-2
-    words-match-requires
+    mul-equal-calls
+    shared-slice-read-equal-calls
+    mul-equal-calls-2
+    shared-slice-read-equal-calls-2
+    equal-calls-requires
     add-i
     loop-less
     loop-again

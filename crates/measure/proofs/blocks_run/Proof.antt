@@ -5,7 +5,7 @@ use Prim.Native.Nat.{_-_, _≤_}
 use native.Mathlib.Omega.{arith}
 use lib.ListN.{length}
 use borrow.Author.Tests.{leb-true}
-use Rattle.tiling.specs.Run.{run}
+use Rattle.tiling.specs.Run.{equalRun}
 use Rattle.measure.proofs.Blocks.{Blocks, block-room, blocks-none, blocks-more, blocks-stop}
 use Rattle.measure.proofs.Pairs.{pairs-after, short-first, short-second}
 use borrow.Author.Needs.{needs}
@@ -13,7 +13,7 @@ use Rattle.measure.proofs.blocks_run.Statement.{statement}
 use Rattle.measure.proofs.blocks_run.Tie as tie
 
 abbrev Inv-loop : tie.InvT-loop
-Inv-loop pattern text n₀ n = Blocks (run pattern text) n × (n ≤ length pattern) × (n ≤ length text)
+Inv-loop pattern text n₀ n = Blocks (equalRun pattern text) n × (n ≤ length pattern) × (n ≤ length text)
 
 abbrev μ-loop : tie.MeasureT-loop
 μ-loop pattern text n₀ n = length pattern - n

@@ -12,20 +12,20 @@ returns c = search longer-pattern
 returns-2 : tie.Need-returns-2
 returns-2 c = search longer-text
 
-mul-words-match : tie.Need-mul-words-match
-mul-words-match c = search needs
+mul-equal-calls : tie.Need-mul-equal-calls
+mul-equal-calls c = search needs
 
-shared-slice-read-words-match : tie.Need-shared-slice-read-words-match
-shared-slice-read-words-match c = search needs
+shared-slice-read-equal-calls : tie.Need-shared-slice-read-equal-calls
+shared-slice-read-equal-calls c = search needs
 
-mul-words-match-2 : tie.Need-mul-words-match-2
-mul-words-match-2 c = search needs
+mul-equal-calls-2 : tie.Need-mul-equal-calls-2
+mul-equal-calls-2 c = search needs
 
-shared-slice-read-words-match-2 : tie.Need-shared-slice-read-words-match-2
-shared-slice-read-words-match-2 c = search needs
+shared-slice-read-equal-calls-2 : tie.Need-shared-slice-read-equal-calls-2
+shared-slice-read-equal-calls-2 c = search needs
 
-words-match-requires : tie.Need-words-match-requires
-words-match-requires c κs = search needs
+equal-calls-requires : tie.Need-equal-calls-requires
+equal-calls-requires c κs = search needs
 
 returns-3 : tie.Need-returns-3
 returns-3 c = search longer-stop
@@ -42,11 +42,11 @@ longer-run-spec =
     (tie.spec
     returns
     returns-2
-    mul-words-match
-    shared-slice-read-words-match
-    mul-words-match-2
-    shared-slice-read-words-match-2
-    words-match-requires
+    mul-equal-calls
+    shared-slice-read-equal-calls
+    mul-equal-calls-2
+    shared-slice-read-equal-calls-2
+    equal-calls-requires
     returns-3
     measured-run-requires
     returns-4)

@@ -3,14 +3,14 @@
 use Prim.Native.Nat.{_-_, _≤_}
 use lib.ListN.{length}
 use borrow.Author.Tests.{ltb-true, ltb-false}
-use Rattle.tiling.specs.Run.{run}
+use Rattle.tiling.specs.Run.{equalRun}
 use Rattle.measure.proofs.Pairs.{pairs-more, pairs-stop, pairs-first, pairs-second}
 use borrow.Author.Needs.{needs}
 use Rattle.measure.proofs.run_from.Statement.{statement}
 use Rattle.measure.proofs.run_from.Tie as tie
 
 abbrev Inv-loop : tie.InvT-loop
-Inv-loop pattern text known n₀ n = n ≤ run pattern text
+Inv-loop pattern text known n₀ n = n ≤ equalRun pattern text
 
 abbrev μ-loop : tie.MeasureT-loop
 μ-loop pattern text known n₀ n = length pattern - n
@@ -18,20 +18,20 @@ abbrev μ-loop : tie.MeasureT-loop
 loop-holds : tie.Need-loop-holds Inv-loop μ-loop
 loop-holds c = search needs
 
-mul-words-match : tie.Need-mul-words-match Inv-loop μ-loop
-mul-words-match c = search needs
+mul-equal-calls : tie.Need-mul-equal-calls Inv-loop μ-loop
+mul-equal-calls c = search needs
 
-shared-slice-read-words-match : tie.Need-shared-slice-read-words-match Inv-loop μ-loop
-shared-slice-read-words-match c = search needs
+shared-slice-read-equal-calls : tie.Need-shared-slice-read-equal-calls Inv-loop μ-loop
+shared-slice-read-equal-calls c = search needs
 
-mul-words-match-2 : tie.Need-mul-words-match-2 Inv-loop μ-loop
-mul-words-match-2 c = search needs
+mul-equal-calls-2 : tie.Need-mul-equal-calls-2 Inv-loop μ-loop
+mul-equal-calls-2 c = search needs
 
-shared-slice-read-words-match-2 : tie.Need-shared-slice-read-words-match-2 Inv-loop μ-loop
-shared-slice-read-words-match-2 c = search needs
+shared-slice-read-equal-calls-2 : tie.Need-shared-slice-read-equal-calls-2 Inv-loop μ-loop
+shared-slice-read-equal-calls-2 c = search needs
 
-words-match-requires : tie.Need-words-match-requires Inv-loop μ-loop
-words-match-requires c κs = search needs
+equal-calls-requires : tie.Need-equal-calls-requires Inv-loop μ-loop
+equal-calls-requires c κs = search needs
 
 add-n : tie.Need-add-n Inv-loop μ-loop
 add-n c = search needs
@@ -58,11 +58,11 @@ run-from-spec =
     Inv-loop
     μ-loop
     loop-holds
-    mul-words-match
-    shared-slice-read-words-match
-    mul-words-match-2
-    shared-slice-read-words-match-2
-    words-match-requires
+    mul-equal-calls
+    shared-slice-read-equal-calls
+    mul-equal-calls-2
+    shared-slice-read-equal-calls-2
+    equal-calls-requires
     add-n
     loop-less
     loop-again

@@ -1,6 +1,6 @@
 -- `plain::search_row` meets its contract: the parts handed on are the row's rest of the working pattern, and the working text.
 -- Assumes nothing.
-use Rattle.plain.proofs.View.{row-of-parts}
+use Rattle.plain.proofs.View.{row-of-parts, pattern-part, text-part}
 use borrow.Author.Needs.{needs}
 use Rattle.plain.proofs.search_row.Statement.{statement}
 use Rattle.plain.proofs.search_row.Tie as tie
@@ -33,7 +33,7 @@ part-row-search-end-2 : tie.Need-part-row-search-end-2
 part-row-search-end-2 c = search needs
 
 row-search-requires : tie.Need-row-search-requires
-row-search-requires c κs = search needs
+row-search-requires c κs = search (pattern-part, text-part, needs)
 
 returns : tie.Need-returns
 returns c = search row-of-parts

@@ -27,20 +27,20 @@ add-on-text c = search needs
 sub-on-text-2 : tie.Need-sub-on-text-2
 sub-on-text-2 c = search needs
 
-mul-words-match : tie.Need-mul-words-match
-mul-words-match c = search needs
+mul-equal-calls : tie.Need-mul-equal-calls
+mul-equal-calls c = search needs
 
-shared-slice-read-words-match : tie.Need-shared-slice-read-words-match
-shared-slice-read-words-match c = search needs
+shared-slice-read-equal-calls : tie.Need-shared-slice-read-equal-calls
+shared-slice-read-equal-calls c = search needs
 
-mul-words-match-2 : tie.Need-mul-words-match-2
-mul-words-match-2 c = search needs
+mul-equal-calls-2 : tie.Need-mul-equal-calls-2
+mul-equal-calls-2 c = search needs
 
-shared-slice-read-words-match-2 : tie.Need-shared-slice-read-words-match-2
-shared-slice-read-words-match-2 c = search needs
+shared-slice-read-equal-calls-2 : tie.Need-shared-slice-read-equal-calls-2
+shared-slice-read-equal-calls-2 c = search needs
 
-words-match-requires : tie.Need-words-match-requires
-words-match-requires c κs = search needs
+equal-calls-requires : tie.Need-equal-calls-requires
+equal-calls-requires c κs = search needs
 
 returns-4 : tie.Need-returns-4
 returns-4 c = search (goes-further, not-false)
@@ -56,9 +56,9 @@ goes-on-spec =
     returns-3
     add-on-text
     sub-on-text-2
-    mul-words-match
-    shared-slice-read-words-match
-    mul-words-match-2
-    shared-slice-read-words-match-2
-    words-match-requires
+    mul-equal-calls
+    shared-slice-read-equal-calls
+    mul-equal-calls-2
+    shared-slice-read-equal-calls-2
+    equal-calls-requires
     returns-4)

@@ -2,13 +2,14 @@
 -- Assumes nothing.
 use Prim.Native.Nat.{_-_}
 use lib.ListN.{length}
+use Rattle.symbol.specs.Word.{isSound}
 use Rattle.symbol.proofs.Sequence.{Passed, passed-none, passed-more, passed-all}
 use borrow.Author.Needs.{needs}
 use Rattle.symbol.proofs.all_sound.Statement.{statement}
 use Rattle.symbol.proofs.all_sound.Tie as tie
 
 abbrev Inv-loop : tie.InvT-loop
-Inv-loop s all₀ i₀ all i = Passed s i all
+Inv-loop s all₀ i₀ all i = Passed isSound s i all
 
 abbrev μ-loop : tie.MeasureT-loop
 μ-loop s all₀ i₀ all i = length s - i
