@@ -42,6 +42,7 @@ enum {
 struct plan {
     unsigned kind;
     unsigned alphabet; /* calls have so many codes, and all words are sound; 0: words as they are */
+    bool retired;      /* of that many, those above 16 are the retired codes and the codes that these stand for */
     bool bytes;        /* a word is given by one byte */
     bool itself;       /* the first sequence is compared with itself */
     bool halves;       /* both sequences are half of the words */
@@ -151,9 +152,18 @@ static bool sound(const uint32_t *words, size_t len)
     return true;
 }
 
+/* What the codes from 65,000 on stand for. */
+static const uint16_t replacements[16] = {11, 14, 14, 27, 30, 52, 52, 52, 101, 118, 240, 241, 300, 512, 777, 1024};
+
+static uint32_t replaced(uint32_t word)
+{
+    uint32_t code = word & 0xffff;
+    return is_call(word) && code >= 65000 && code < 65016 ? SIGXUME_CALL(replacements[code - 65000]) : word;
+}
+
 static bool match(uint32_t a, uint32_t b)
 {
-    return is_call(a) && is_call(b) && (a & 0xffff) == (b & 0xffff);
+    return is_call(a) && is_call(b) && replaced(a) == replaced(b);
 }
 
 static uint32_t trailer(uint32_t header, const uint32_t *sequence, size_t count)
@@ -278,7 +288,7 @@ static void try_score(uint32_t covered, size_t words)
         MUST(score <= whole / words && whole - score * words < words);
 }
 
-/* Words: match and soundness, and the score of any numbers. */
+/* Words: replacement, match and soundness, and the score of any numbers. */
 static void try_words(const struct plan *plan, const uint32_t *words, size_t len)
 {
     struct slice s = lend(FIRST, words, len, plan->null);
@@ -289,6 +299,7 @@ static void try_words(const struct plan *plan, const uint32_t *words, size_t len
         MUST(sigxume_match(words[i], words[i]) == is_call(words[i]));
         MUST(sigxume_match(words[i], next) == match(words[i], next));
         MUST(sigxume_match(words[i], words[i] ^ plan->multiplier) == match(words[i], words[i] ^ plan->multiplier));
+        MUST(sigxume_replaced(words[i]) == replaced(words[i]));
     }
     try_score(plan->multiplier, 0);
     try_score(plan->multiplier, (size_t)plan->buckets << plan->start % 33);
@@ -383,7 +394,7 @@ static uint32_t hash_of(const uint32_t *window, size_t length, uint32_t multipli
 {
     uint32_t sum = 0, power = 1;
     for (size_t i = length; i-- > 0;) {
-        sum += window[i] * power;
+        sum += replaced(window[i]) * power;
         power *= multiplier;
     }
     return sum;
@@ -501,14 +512,14 @@ static void must_be_tiled(
         static uint32_t calls[1 << 16];
         uint32_t both = 0;
         for (size_t i = 0; i < n; i++)
-            calls[first[i] & 0xffff] += is_call(first[i]);
+            calls[replaced(first[i]) & 0xffff] += is_call(first[i]);
         for (size_t j = 0; j < m; j++)
-            if (is_call(second[j]) && calls[second[j] & 0xffff] != 0) {
-                calls[second[j] & 0xffff]--;
+            if (is_call(second[j]) && calls[replaced(second[j]) & 0xffff] != 0) {
+                calls[replaced(second[j]) & 0xffff]--;
                 both++;
             }
         for (size_t i = 0; i < n; i++)
-            calls[first[i] & 0xffff] = 0;
+            calls[replaced(first[i]) & 0xffff] = 0;
         MUST(covered == both);
     }
     if (n * m <= MEDIUM) {
@@ -751,6 +762,7 @@ static struct plan plan_of(const uint8_t *bytes)
         .null = bytes[2] >> 2 & 1,
         .in_range = bytes[2] >> 3 & 1,
         .halves = bytes[2] >> 4 & 1,
+        .retired = bytes[2] >> 5 & 1,
         .room = {bytes[3] % 4, bytes[3] / 4 % 4, bytes[3] / 16 % 4},
         .cut = bytes[4] + 256u * bytes[5],
         .id = (uint16_t)(bytes[6] + 256u * bytes[7]),
@@ -779,8 +791,12 @@ static size_t words_of(const struct plan *plan, const uint8_t *bytes, size_t siz
         len = MOST;
     for (size_t i = 0; i < len; i++) {
         words[i] = !narrow ? word_at(bytes + 4 * i) : bytes[i] == 255 ? SIGXUME_NO_CALL : SIGXUME_CALL(bytes[i]);
-        if (plan->alphabet != 0 && !records && words[i] != SIGXUME_NO_CALL)
-            words[i] = SIGXUME_CALL((words[i] & 0xffff) % plan->alphabet);
+        if (plan->alphabet != 0 && !records && words[i] != SIGXUME_NO_CALL) {
+            uint32_t code = (words[i] & 0xffff) % plan->alphabet;
+            if (plan->retired && code >= 16)
+                code = code % 2 != 0 ? 65000 + code / 2 % 16 : replacements[code / 2 % 16];
+            words[i] = SIGXUME_CALL(code);
+        }
     }
     return len;
 }

@@ -20,7 +20,14 @@
  *     2     no-call  zero: SIGXUME_NO_CALL
  *     3     trailer  29 to 0 the sum, modulo 2^30, of the low 30 bits of the header and of every word of the sequence
  *
- * Two words match when both are calls with equal codes. A no-call matches nothing, another no-call included.
+ * Sixteen codes are retired, and stand for others:
+ *
+ *     65,000 to 65,007   11  14  14  27  30  52  52  52
+ *     65,008 to 65,015  101 118 240 241 300 512 777 1,024
+ *
+ * Two words match when both are calls and their codes are equal once retired ones are replaced by what they stand for. A no-call matches
+ * nothing, another no-call included. Comparing and hashing replace retired codes by themselves; reading and writing records leave every
+ * word as it is.
  *
  * A sequence is 0 to 2,048 words, each a call or the no-call. Positions count from 0. A record is a sequence as it is stored: a
  * header, the sequence, a trailer. In a file each word is four bytes, lowest byte first, so on x86-64 a file's bytes can be read
@@ -29,8 +36,8 @@
  * A tile is a stretch of words of both sequences that match one by one. The tiling always lays the longest that there is on words
  * not yet covered; of equally long ones the one that starts first in the pattern, and then the one that starts first in the text. It
  * ends when there is none of at least the minimum length. The pattern is the shorter sequence, the text the longer. Of two sequences
- * of equal length the pattern is the one with the smaller word, as an unsigned number, at the first position where they differ; so a
- * no-call is greater than every call. Of equal sequences it is the first.
+ * of equal length the pattern is the one with the smaller word, as it is passed and as an unsigned number, at the first position where
+ * they differ; so a no-call is greater than every call. Of equal sequences it is the first.
  *
  * So it does not matter which sequence is passed first: exchanging the two exchanges the two starts of each tile and changes nothing
  * else. The order of the tiles, their lengths, their number, covered, score and every word of a cover are the same.
@@ -217,8 +224,14 @@ static inline const char *sigxume_reason(uint32_t refusal)
     }
 }
 
-/* Whether two words match: both are calls with equal codes. Any two words may be given; a call matches itself, and no
- * other word matches anything. It is decided without a branch, by the same few instructions for all words. */
+/* The word as it is compared and hashed: a call of a retired code becomes a call of the code that it stands for, and any other word
+ * is itself, whatever its bits. Replacing twice is replacing once. No other function wants its words replaced beforehand; this is for
+ * programs that compare or count words themselves. */
+uint32_t sigxume_replaced(uint32_t word);
+
+/* Whether two words match: both are calls, and their codes are equal once retired ones are replaced. Any two words may be given; a
+ * call matches itself, and a word that is no call matches nothing. It is decided without a branch, by the same few instructions for
+ * all words. */
 bool sigxume_match(uint32_t a, uint32_t b);
 
 /* Whether each word is a call or the no-call. There may be any number of them; of none it is true. */
@@ -246,7 +259,8 @@ sigxume_counted sigxume_write(
 /*
  * Fills the start of buffer, which must have sigxume_hash_words, with the hash of each window of so many words, and answers how
  * many there are; none where the window is longer than the sequence. The rest of the buffer keeps its values. The hash of
- * w0 .. w(s-1) is w0 * B^(s-1) + .. + w(s-1) modulo 2^32, over whole words, B being the multiplier and B^0 = 1 even for B = 0.
+ * w0 .. w(s-1) is w0 * B^(s-1) + .. + w(s-1) modulo 2^32, over whole words, each replaced by sigxume_replaced, B being the multiplier
+ * and B^0 = 1 even for B = 0.
  *
  * Refused, in this order: TOO_LONG (1), UNSOUND (2), SEARCH_LENGTH (5), ROOM (11). The buffer is then as it was.
  */

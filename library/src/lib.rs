@@ -4,7 +4,8 @@
 //! hands on to it.
 //!
 //! A **word** has 32 bits: the call of a motif code, or the no-call, which matches nothing.
-//! [`Symbol`] makes words. A **sequence** is a slice of up to [`MAX_WORDS`] of them, and a
+//! [`Symbol`] makes words. Sixteen codes are retired and stand for others; words are compared and
+//! hashed as [`replaced`] gives them, and stored as they are. A **sequence** is a slice of up to [`MAX_WORDS`] of them, and a
 //! **record** is a sequence with a fish's number, as it is stored. What cannot be done is refused,
 //! by a [`Refusal`] with its cause and its number, and nothing that was lent has then changed.
 //!
@@ -61,7 +62,7 @@ pub use comparison::{
 pub use cover::{cover, Cover, COVER_WORDS};
 pub use record::{read, record_words, records, write, Entry, Record, Records};
 pub use refusal::Refusal;
-pub use symbol::{all_sound, words_match, Symbol};
+pub use symbol::{all_sound, replaced, words_match, Symbol};
 pub use window::{hash_list, hash_words};
 
 /// The most words that a sequence may have.

@@ -48,6 +48,7 @@ pub struct Compared {
 }
 
 extern "C" {
+    fn sigxume_replaced(word: u32) -> u32;
     fn sigxume_match(a: u32, b: u32) -> bool;
     fn sigxume_sound(words: *const u32, words_len: usize) -> bool;
     fn sigxume_read(
@@ -111,6 +112,11 @@ extern "C" {
         cover: *mut u32,
         cover_len: usize,
     ) -> Compared;
+}
+
+/// The word as it is compared and hashed.
+pub fn replaced(word: u32) -> u32 {
+    unsafe { sigxume_replaced(word) }
 }
 
 /// Whether two words match.

@@ -1,4 +1,4 @@
-//! Words: calls and the no-call.
+//! Words: calls, retired codes and the no-call.
 
 use crate::{raw, Refusal};
 
@@ -39,6 +39,23 @@ impl Symbol {
             Ok(Self::Call(word as u16))
         }
     }
+
+    /// The symbol as it is compared: the call of a retired code becomes that of the code which it stands for, as
+    /// [`replaced`] has it.
+    ///
+    /// ```
+    /// use sigxume::Symbol;
+    ///
+    /// assert_eq!(Symbol::Call(65_000).replaced(), Symbol::Call(11));
+    /// assert_eq!(Symbol::Call(11).replaced(), Symbol::Call(11));
+    /// ```
+    pub fn replaced(self) -> Self {
+        match self {
+            // A replaced call is a call.
+            Self::Call(_) => Self::Call(replaced(self.word()) as u16),
+            Self::NoCall => Self::NoCall,
+        }
+    }
 }
 
 impl TryFrom<u32> for Symbol {
@@ -55,8 +72,26 @@ impl From<Symbol> for u32 {
     }
 }
 
-/// Whether two words match: both are calls with equal codes. Any two words may be given. It is decided without a branch,
-/// by the same few instructions for all words.
+/// The word as it is compared and hashed: a call of a retired code, 65,000 to 65,015, becomes a call of the code that it
+/// stands for, and any other word is itself. Any word may be given. Replacing twice is replacing once.
+///
+/// Nothing need be replaced before a call: every function of this crate takes words as they are. This is for programs
+/// that compare or count words themselves.
+///
+/// ```
+/// use sigxume::{replaced, Symbol};
+///
+/// let replaced_code = |code| replaced(Symbol::Call(code).word());
+/// assert_eq!(replaced_code(65_000), Symbol::Call(11).word());
+/// assert_eq!(replaced_code(65_015), Symbol::Call(1_024).word());
+/// assert_eq!(replaced_code(64_999), Symbol::Call(64_999).word());
+/// ```
+pub fn replaced(word: u32) -> u32 {
+    raw::replaced(word)
+}
+
+/// Whether two words match: both are calls, and their codes are equal once retired ones are [replaced]. Any two words may
+/// be given. It is decided without a branch, by the same few instructions for all words.
 ///
 /// ```
 /// use sigxume::{words_match, Symbol};
@@ -66,6 +101,8 @@ impl From<Symbol> for u32 {
 /// assert!(words_match(a, a));
 /// assert!(!words_match(a, b));
 /// assert!(!words_match(no_call, no_call));
+/// let [retired, its_code] = [65_000, 11].map(|code| Symbol::Call(code).word());
+/// assert!(words_match(retired, its_code));
 /// ```
 pub fn words_match(a: u32, b: u32) -> bool {
     raw::matches(a, b)

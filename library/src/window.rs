@@ -14,7 +14,7 @@ pub const fn hash_words(words: usize, window: u32) -> usize {
 /// Fills the start of `buffer` with the hash of each window of so many words, and answers how many
 /// there are; none where the window is longer than the sequence. The rest of the buffer keeps its
 /// values. The hash of w0 .. w(s-1) is w0 × B^(s-1) + .. + w(s-1) modulo 2^32, B being the
-/// multiplier.
+/// multiplier and each word the [replaced](crate::replaced) one.
 ///
 /// Refused, in this order: [`TooLong`](Refusal::TooLong), [`Unsound`](Refusal::Unsound),
 /// [`SearchLength`](Refusal::SearchLength), [`Room`](Refusal::Room). The buffer is then as it was.
