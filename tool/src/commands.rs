@@ -10,7 +10,7 @@ use crate::output::{self, Output};
 use crate::pairs::Pairs;
 use crate::usage::Arguments;
 use crate::{curves, listing, plot, text};
-use sigxume::{bytes_of_words, Comparer, Refusal, Tiling};
+use sigxume::{bytes_of_words, Comparer, Refusal, Symbol, Tiling};
 use std::io::{self, IsTerminal};
 use std::num::NonZeroUsize;
 use std::thread;
@@ -121,4 +121,16 @@ pub fn matrix(arguments: Arguments) -> Result<(), Failure> {
         return Err(Failure::Quiet);
     }
     Ok(())
+}
+
+pub fn codes(arguments: Arguments) -> Result<(), Failure> {
+    let mut text = String::new();
+    // The core alone knows which codes are retired, so it is asked about every one.
+    for code in 0..=u16::MAX {
+        match Symbol::Call(code).replaced() {
+            Symbol::Call(new) if new != code => text += &format!("{code} {new}\n"),
+            _ => (),
+        }
+    }
+    output::write(arguments.output.as_deref(), text.as_bytes())
 }

@@ -25,9 +25,10 @@ Records
     (minimum) => {
         "\
 The minimum
-  A tile is a stretch of words that is the same in both fish. Only tiles of at
-  least N words count, N from 1 to 256. A small N finds short common stretches,
-  of which many are chance; a large N finds only long ones.
+  A tile is a stretch of words that is the same in both fish, a retired code
+  counting as the one that it stands for ('sigxume codes' lists them). Only
+  tiles of at least N words count, N from 1 to 256. A small N finds short common
+  stretches, of which many are chance; a large N finds only long ones.
 "
     };
     (pair) => {
@@ -72,6 +73,7 @@ Subcommands
   plot     compares two fish: draws what they share, as an SVG picture
   cover    compares two fish at every minimum: a table, or the curve of scores
   matrix   compares every two of many fish: a table of scores, as CSV
+  codes    lists the retired codes, and what each stands for
   help     shows help; 'sigxume help compare' is 'sigxume compare --help'
 
 Options
@@ -339,5 +341,37 @@ With --keep-going
 Examples
   sigxume matrix -m 8 -o scores.csv fish.txt
   sigxume matrix -m 8 --pairs fish.txt
+"
+);
+
+pub const CODES: &str = concat!(
+    "\
+Lists the retired codes, and what each stands for.
+
+Usage: sigxume codes [-o FILE]
+
+Options
+",
+    shared!(output),
+    shared!(help),
+    "
+The list
+  65000 11           one line each: the retired code, and the code that it
+                     stands for; the retired ones rise
+
+Retired codes
+  The laboratory gave some codes up, and older files still carry them. When
+  fish are compared, a retired code counts as the code that it stands for: it
+  matches that code, and every other one that stands for it. Files need no
+  change: encode and decode leave every code as it is, and positions are those
+  of the words in the file. The codes as they stand decide one thing: where two
+  fish have equally many words, which of equally long stretches is laid first.
+
+",
+    shared!(status),
+    "
+Examples
+  sigxume codes
+  sigxume codes -o retired.txt
 "
 );

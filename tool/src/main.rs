@@ -35,7 +35,7 @@ struct Subcommand {
     run: fn(Arguments) -> Result<(), Failure>,
 }
 
-const SUBCOMMANDS: [Subcommand; 6] = [
+const SUBCOMMANDS: [Subcommand; 7] = [
     Subcommand {
         name: "encode",
         accepted: Accepted {
@@ -102,6 +102,16 @@ const SUBCOMMANDS: [Subcommand; 6] = [
         },
         help: help::MATRIX,
         run: commands::matrix,
+    },
+    Subcommand {
+        name: "codes",
+        accepted: Accepted {
+            options: &["output"],
+            repeated: &[],
+            operands: 0..=0,
+        },
+        help: help::CODES,
+        run: commands::codes,
     },
 ];
 

@@ -197,6 +197,7 @@ pub fn parse(arguments: &[OsString], accepted: &Accepted) -> Result<Arguments, S
     let [least, most] = [accepted.operands.start(), accepted.operands.end()];
     match parsed.operands.len() {
         found if found < *least => Err("no file is named".into()),
+        found if found > 0 && *most == 0 => Err("a file is named, but none is taken".into()),
         found if found > *most => Err(format!("{found} files are named, at most {most} are taken")),
         _ => Ok(parsed),
     }
