@@ -8,6 +8,7 @@ pub mod limits;
 pub mod mistakes;
 mod plan;
 pub mod restarts;
+pub mod retired;
 pub mod settings;
 
 use crate::engine::{every_settings, Engine};

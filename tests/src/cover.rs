@@ -16,6 +16,7 @@ use crate::random::Random;
 use crate::reference::{
     self, exchanged, tile_words, workspace_words, Curve, Tile, COVER_WORDS, MAX_WORDS,
 };
+use crate::retired::mixed_pair;
 use crate::samples::{call, fills, NO_CALL};
 use crate::wise;
 use sigxume::raw::{self, Compared};
@@ -217,12 +218,12 @@ pub fn small(g: &mut Group) {
     }
 }
 
-/// Random pairs of up to 60 words over few codes and more, in both orders.
+/// Random pairs of up to 60 words over few codes and more, every fourth with retired ones, in both orders.
 pub fn random(g: &mut Group) {
     for number in 0..1_000 {
         let codes = g.random.pick(&[1, 2, 2, 3, 3, 4, 5, 6, 10, 40, 65_535]);
         let longest = g.random.pick(&[8, 20, 60]);
-        let pair = any_pair(&mut g.random, longest, codes);
+        let pair = mixed_pair(&mut g.random, longest, codes);
         for [first, second] in both_orders(&pair) {
             let case = format_args!("pair {number}: {} and {}", Letters(first), Letters(second));
             Problem::new([first, second]).cover(g, case);

@@ -19,6 +19,7 @@ pub mod program;
 pub mod random;
 pub mod records;
 pub mod reference;
+pub mod retired;
 pub mod samples;
 pub mod series;
 pub mod stack;

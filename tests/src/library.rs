@@ -10,8 +10,8 @@ use crate::samples::{any_length, call, faulty, ids, sequence, sound_word, unsoun
 use crate::tool::Tool;
 use sigxume::{
     bytes_of_words, compare, compare_plain, cover, hash_list, hash_words, read, record_words,
-    records, score, tile_words, tiles, words_match, words_of_bytes, workspace_words, write,
-    Comparer, Cover, Refusal, Settings, Symbol, Tile, COVER_WORDS,
+    records, replaced, score, tile_words, tiles, words_match, words_of_bytes, workspace_words,
+    write, Comparer, Cover, Refusal, Settings, Symbol, Tile, COVER_WORDS,
 };
 use std::cell::LazyCell;
 use std::process::Command;
@@ -139,12 +139,20 @@ pub fn symbols(g: &mut Group) {
         let symbol = Symbol::Call(code);
         let case = format_args!("code {code}");
         g.equal(case, symbol.word(), call(code));
+        let word = reference::replaced(call(code));
+        g.equal(
+            case,
+            (replaced(call(code)), symbol.replaced().word()),
+            (word, word),
+        );
         g.equal(case, Symbol::from_word(call(code)), Ok(symbol));
     }
     let no_call = Symbol::NoCall.word();
     g.equal(format_args!("the no-call"), no_call, NO_CALL);
     let back = Symbol::from_word(NO_CALL);
     g.equal(format_args!("the no-call"), back, Ok(Symbol::NoCall));
+    let same = Symbol::NoCall.replaced();
+    g.equal(format_args!("the no-call"), same, Symbol::NoCall);
     for _ in 0..20_000 {
         let word = unsound_word(&mut g.random);
         let case = format_args!("{word:#x}");

@@ -1,5 +1,5 @@
-//! The match of two words does not branch: neither as it is written nor as it was compiled. No contract can say
-//! so, since it speaks of what a function answers. So both are read here.
+//! The match of two words does not branch, the replacement of retired codes in it included: neither as it is written nor
+//! as it was compiled. No contract can say so, since it speaks of what a function answers. So both are read here.
 
 use crate::group::Group;
 use crate::process::printed;
@@ -28,19 +28,43 @@ fn words(text: &str) -> impl Iterator<Item = &str> {
     parts.filter(|word| !word.is_empty())
 }
 
-/// What in a body is more than arithmetic and comparison on `a` and `b`: any other name, which a keyword or a call
+/// Each function of the match, with the names that may stand in its body: what it is given, what it names, the table,
+/// conversions, and functions of this list.
+const STRAIGHT: [(&str, &[&str]); 4] = [
+    ("is_retired", &["w"]),
+    (
+        "replaced",
+        &[
+            "let",
+            "w",
+            "retired",
+            "is_retired",
+            "as",
+            "u32",
+            "usize",
+            "entry",
+            "REPLACEMENTS",
+        ],
+    ),
+    ("equal_calls", &["a", "b"]),
+    ("words_match", &["a", "b", "replaced", "equal_calls"]),
+];
+
+/// What in a body is more than arithmetic and comparison on these names: any other name, which a keyword or a call
 /// would need, and the operators that look at their right side only now and then.
-fn more_than_arithmetic(body: &str) -> Vec<&str> {
+fn more_than_arithmetic<'a>(body: &'a str, known: &[&str]) -> Vec<&'a str> {
     let number = |word: &str| word.starts_with(|c: char| c.is_ascii_digit());
-    let names = words(body).filter(|word| !number(word) && !["a", "b"].contains(word));
+    let names = words(body).filter(|word| !number(word) && !known.contains(word));
     let lazy = ["&&", "||"].into_iter().filter(|sign| body.contains(sign));
     names.chain(lazy).collect()
 }
 
-/// The body of `words_match`, and, so that this can fail, bodies that branch.
+/// The bodies of the match, and, so that this can fail, bodies that branch.
 pub fn source(g: &mut Group) {
-    let found = body(SOURCE, "words_match").map(more_than_arithmetic);
-    g.equal(format_args!("words_match"), found, Some(Vec::new()));
+    for (function, known) in STRAIGHT {
+        let found = body(SOURCE, function).map(|body| more_than_arithmetic(body, known));
+        g.equal(format_args!("{function}"), found, Some(Vec::new()));
+    }
     for (text, due) in [
         ("    a == b && is_call(a)", &["is_call", "&&"][..]),
         (
@@ -49,10 +73,10 @@ pub fn source(g: &mut Group) {
         ),
         ("    (a != b) || a == 0x4000", &["||"]),
     ] {
-        let found = more_than_arithmetic(text);
+        let found = more_than_arithmetic(text, &["a", "b"]);
         g.equal(format_args!("{text:?}"), &found[..], due);
     }
-    let found = body(SOURCE, "all_sound").map(more_than_arithmetic);
+    let found = body(SOURCE, "all_sound").map(|body| more_than_arithmetic(body, &[]));
     let found = found.is_some_and(|found| found.contains(&"while"));
     g.equal(format_args!("all_sound has a loop"), found, true);
 }
@@ -78,18 +102,20 @@ fn leaves_the_line(instruction: &str) -> bool {
         .any(|begin| instruction.starts_with(begin))
 }
 
-/// The machine code of the exported match goes from its first instruction to its last, which returns. That no test
-/// of a word is a jump is thus seen of all 2^64 pairs at once. The same look finds the jumps of a function that has a
-/// loop.
+/// The machine code of the exported match, and of the exported replacement, goes from its first instruction to its last,
+/// which returns. That no test of a word is a jump is thus seen of all 2^64 pairs at once. The same look finds the jumps
+/// of a function that has a loop.
 pub fn code(g: &mut Group) {
-    match instructions("sigxume_match") {
-        Err(error) => g.equal(format_args!("sigxume_match"), error, String::new()),
-        Ok(found) => {
-            let jumps = Vec::from_iter(found.iter().filter(|name| leaves_the_line(name)));
-            g.equal(format_args!("sigxume_match: jumps"), jumps, Vec::new());
-            let returns = found.iter().position(|name| name.starts_with("ret"));
-            let last = found.len().checked_sub(1);
-            g.equal(format_args!("sigxume_match: return"), returns, last);
+    for function in ["sigxume_match", "sigxume_replaced"] {
+        match instructions(function) {
+            Err(error) => g.equal(format_args!("{function}"), error, String::new()),
+            Ok(found) => {
+                let jumps = Vec::from_iter(found.iter().filter(|name| leaves_the_line(name)));
+                g.equal(format_args!("{function}: jumps"), jumps, Vec::new());
+                let returns = found.iter().position(|name| name.starts_with("ret"));
+                let last = found.len().checked_sub(1);
+                g.equal(format_args!("{function}: return"), returns, last);
+            }
         }
     }
     let looping = instructions("sigxume_sound");

@@ -10,6 +10,7 @@ use crate::reference::{
     exchanged, header, listing, pair_program, record, sealed, trailer, Tile, CUT, HEADER,
     MAX_MINIMUM, MAX_WORDS, MINIMUM, TRAILER, UNSOUND,
 };
+use crate::retired::mixed_pair;
 use crate::samples::{call, ids, sequence, sound_word, unsound_word, with, NO_CALL};
 use std::fmt::Arguments;
 use std::fs::File;
@@ -97,7 +98,7 @@ pub fn random(g: &mut Group) {
     for number in 0..250 {
         let random = &mut g.random;
         let (longest, codes) = (random.pick(&[8, 60, 200]), random.pick(&[1, 2, 3, 6, 40]));
-        let [first, second] = any_pair(random, longest, codes);
+        let [first, second] = mixed_pair(random, longest, codes);
         let minimum = random.pick(&[1, 1, 2, 3, 8, 19, 20, 21, 40]);
         let table = ids(random);
         let ids = [random.pick(&table), random.pick(&table)];

@@ -69,9 +69,47 @@ pub fn all_sound(words: &[u32]) -> bool {
     words.iter().all(|&word| is_sound(word))
 }
 
-/// "Two words match when both are calls with equal codes."
+/// 02, U4: "Codes 65,000 to 65,015 stand, in that order, for 11, 14, 14, 27, 30, 52, 52, 52, 101, 118, 240,
+/// 241, 300, 512, 777 and 1,024."
+pub const RETIRED: [(u16, u16); 16] = [
+    (65_000, 11),
+    (65_001, 14),
+    (65_002, 14),
+    (65_003, 27),
+    (65_004, 30),
+    (65_005, 52),
+    (65_006, 52),
+    (65_007, 52),
+    (65_008, 101),
+    (65_009, 118),
+    (65_010, 240),
+    (65_011, 241),
+    (65_012, 300),
+    (65_013, 512),
+    (65_014, 777),
+    (65_015, 1_024),
+];
+
+/// The word after that replacement. A word that is no call has no code, and stays.
+pub fn replaced(word: u32) -> u32 {
+    let retired = RETIRED
+        .iter()
+        .find(|(retired, _)| code(word) == Some(u32::from(*retired)));
+    match retired {
+        Some((_, new)) => 1 << 30 | u32::from(*new),
+        None => word,
+    }
+}
+
+/// Words after that replacement.
+pub fn replaced_words(words: &[u32]) -> Vec<u32> {
+    words.iter().map(|&word| replaced(word)).collect()
+}
+
+/// "A no-call matches nothing, another no-call included." 02, U4: "Two calls match when their codes are equal
+/// after this replacement."
 pub fn matches(a: u32, b: u32) -> bool {
-    match (code(a), code(b)) {
+    match (code(replaced(a)), code(replaced(b))) {
         (Some(a), Some(b)) => a == b,
         _ => false,
     }
@@ -168,8 +206,9 @@ fn powers(multiplier: u32, count: usize) -> Vec<u64> {
 }
 
 /// The hash of each window: "w0 × B^(s-1) + .. + w(s-1), modulo 2^32, over whole words". Each window
-/// is summed by itself, so nothing rolls.
+/// is summed by itself, so nothing rolls. 02, U4: "the hash take[s] the replaced words".
 pub fn window_hashes(words: &[u32], multiplier: u32, window: usize) -> Vec<u32> {
+    let words = replaced_words(words);
     let powers = powers(multiplier, window);
     let hash = |window: &[u32]| {
         let terms = window.iter().zip(powers.iter().rev());
@@ -222,7 +261,7 @@ pub fn exchanged(tiles: Vec<Tile>) -> Vec<Tile> {
     tiles.into_iter().map(exchange).collect()
 }
 
-/// The pattern or the text: the code of each word that is a call and unmarked.
+/// The pattern or the text: the replaced code of each word that is a call and unmarked.
 struct Side {
     codes: Vec<Option<u32>>,
 }
@@ -230,7 +269,7 @@ struct Side {
 impl Side {
     /// "All words start unmarked."
     fn new(words: &[u32]) -> Self {
-        let codes = words.iter().map(|&word| code(word)).collect();
+        let codes = replaced_words(words).into_iter().map(code).collect();
         Self { codes }
     }
 
@@ -265,7 +304,8 @@ fn best_run(pattern: &Side, text: &Side, minimum: usize) -> Option<(usize, usize
 
 /// Whether the first sequence is the pattern: "the pattern is the shorter strand"; 02, U2: "of two
 /// strands of equal length the pattern is the one with the smaller word at the first place where they
-/// differ, words taken as unsigned numbers. If no place differs the first strand is the pattern."
+/// differ, words taken as unsigned numbers. If no place differs the first strand is the pattern." 02, U4: "U2's
+/// choice of pattern looks at the words as handed in."
 pub fn first_is_pattern(first: &[u32], second: &[u32]) -> bool {
     if first.len() != second.len() {
         return first.len() < second.len();

@@ -5,6 +5,7 @@ pub mod bad_lines;
 pub mod bad_records;
 pub mod chain;
 pub mod choice;
+pub mod codes;
 pub mod compare;
 pub mod cover;
 pub mod curves;

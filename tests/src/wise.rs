@@ -18,6 +18,7 @@
 //!   happens; two windows that merely hash alike could otherwise bring it about without end.
 //! - A no-call counts as marked from the start.
 //! - Of two sequences of equal length the pattern is the one that the reference takes, after 02.
+//! - It knows no retired code: words match that are equal calls.
 //!
 //! Every comparison allocates what it needs, as the program of 000 did for every run.
 
@@ -303,14 +304,14 @@ impl Program {
     }
 }
 
-/// The tiles of two sequences in the order laid, and how many matches were queued on the way.
-pub fn tiling(first: &[u32], second: &[u32], minimum: usize, start: usize) -> (Vec<Tile>, usize) {
-    let straight = first_is_pattern(first, second);
-    let (pattern, text) = if straight {
-        (first, second)
-    } else {
-        (second, first)
-    };
+/// The tiles of a pattern and a text in the order laid, and how many matches were queued on the way. The pattern is
+/// the first side of each tile.
+pub fn pattern_tiling(
+    pattern: &[u32],
+    text: &[u32],
+    minimum: usize,
+    start: usize,
+) -> (Vec<Tile>, usize) {
     let mut program = Program {
         pattern: Side::new(pattern, MARKED[0]),
         text: Side::new(text, MARKED[1]),
@@ -321,8 +322,17 @@ pub fn tiling(first: &[u32], second: &[u32], minimum: usize, start: usize) -> (V
     };
     program.run(minimum, start);
     let tiles = program.tiles.into_iter().map(Tile::from).collect();
-    let tiles = if straight { tiles } else { exchanged(tiles) };
     (tiles, program.queued)
+}
+
+/// The tiles of two sequences in the order laid, and how many matches were queued on the way.
+pub fn tiling(first: &[u32], second: &[u32], minimum: usize, start: usize) -> (Vec<Tile>, usize) {
+    if first_is_pattern(first, second) {
+        pattern_tiling(first, second, minimum, start)
+    } else {
+        let (tiles, queued) = pattern_tiling(second, first, minimum, start);
+        (exchanged(tiles), queued)
+    }
 }
 
 /// Compares two sequences that the engines accept, for a first search length of at least the minimum,

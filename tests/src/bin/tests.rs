@@ -9,11 +9,11 @@ use sigxume_tests::comparisons::{
 use sigxume_tests::cover;
 use sigxume_tests::group::Group;
 use sigxume_tests::tool::{
-    self, bad_lines, bad_records, compare, curves, json, matrix, matrix_bad, matrix_large,
+    self, bad_lines, bad_records, codes, compare, curves, json, matrix, matrix_bad, matrix_large,
     matrix_mirror, options, output, plot, progress, round_trips, usage,
 };
 use sigxume_tests::{
-    baselines, documents, hashes, known, library, machine, program, records, stack, words,
+    baselines, documents, hashes, known, library, machine, program, records, retired, stack, words,
 };
 use std::process::ExitCode;
 use std::thread;
@@ -32,6 +32,10 @@ const GROUPS: &[Row] = &[
     ("match: every code", 5, words::match_codes),
     ("match: random pairs", 6, words::match_random),
     ("match: few bits apart", 120, words::match_few_bits),
+    ("retired: replaced words", 130, retired::replaced),
+    ("retired: matches", 131, retired::matches),
+    ("retired: hashes", 132, retired::hashes),
+    ("retired: records", 133, retired::records),
     ("match: source", 121, machine::source),
     ("match: machine code", 122, machine::code),
     ("sound: single words", 7, words::sound_words),
@@ -56,6 +60,9 @@ const GROUPS: &[Row] = &[
     ("hashes: order of refusals", 26, hashes::order),
     ("hashes: random", 27, hashes::random),
     ("compare: known pairs", 28, comparisons::known),
+    ("compare: retired codes", 134, comparisons::retired::known),
+    ("compare: retired codes, random", 135, comparisons::retired::random),
+    ("compare: retired codes, outside", 136, comparisons::retired::outside_comparison),
     ("compare: exact minimum", 29, mistakes::exact_minimum),
     ("compare: remainders", 30, mistakes::remainders),
     ("compare: ties", 31, mistakes::ties),
@@ -121,6 +128,7 @@ const GROUPS: &[Row] = &[
     ("program: what follows", 58, program::what_follows),
     ("program: in pieces", 59, program::in_pieces),
     ("program: faults", 83, program::faults),
+    ("tool: retired codes", 137, codes::codes),
     ("tool: encode and decode", 61, round_trips::encode_and_decode),
     ("tool: bad lines", 62, bad_lines::bad_lines),
     ("tool: bad records", 63, bad_records::bad_records),

@@ -4,7 +4,8 @@ use super::{engines, listed, turned_back};
 use crate::engine::Engine;
 use crate::group::Group;
 use crate::pairs::{any_pair, both_orders, periodic, related, unrelated, Pair, Sides};
-use crate::reference::{covered, matches, score, Tile, MAX_WORDS};
+use crate::reference::{covered, matches, replaced, score, Tile, MAX_WORDS};
+use crate::retired::{mixed_pair, related_retired};
 use crate::samples::call;
 use std::collections::HashMap;
 
@@ -40,11 +41,11 @@ fn longest_free_run([first, second]: Sides, free: &[Vec<bool>; 2]) -> usize {
     longest
 }
 
-/// How many calls of each code a sequence has, by the call's word.
+/// How many calls of each replaced code a sequence has, by the call's word.
 fn counts(words: &[u32]) -> HashMap<u32, usize> {
     let mut counts = HashMap::new();
     for &word in words.iter().filter(|&&word| matches(word, word)) {
-        *counts.entry(word).or_default() += 1;
+        *counts.entry(replaced(word)).or_default() += 1;
     }
     counts
 }
@@ -114,11 +115,11 @@ fn hold_by(g: &mut Group, name: &str, [engine, other]: [Engine; 2], pair: Sides,
     );
 }
 
-/// Random pairs and larger ones, up to 2,048 words.
+/// Random pairs, every fourth with retired codes, and larger ones, up to 2,048 words.
 pub fn laws(g: &mut Group) {
     for number in 0..8_000 {
         let codes = g.random.pick(&[1, 2, 3, 4, 6, 20]);
-        let pair = any_pair(&mut g.random, 60, codes);
+        let pair = mixed_pair(&mut g.random, 60, codes);
         let minimum = g.random.pick(&[1, 1, 2, 3, 5]);
         let [first, second] = &pair;
         hold(g, &format!("pair {number}"), [first, second], minimum);
@@ -127,6 +128,7 @@ pub fn laws(g: &mut Group) {
     let mut pairs: Vec<Pair> = vec![
         related(random, MAX_WORDS, 40),
         related(random, MAX_WORDS, 4),
+        related_retired(random, MAX_WORDS, 40),
         unrelated(random, MAX_WORDS, 40),
         unrelated(random, MAX_WORDS, 2),
         [vec![call(0); MAX_WORDS], vec![call(0); MAX_WORDS]],

@@ -8,10 +8,11 @@ use super::results::Compared;
 use super::Tool;
 use crate::group::Group;
 use crate::known;
-use crate::pairs::{any_pair, distinct, periodic, related};
+use crate::pairs::{distinct, periodic, related};
 use crate::process::{lossy, AT_ONCE};
 use crate::program::{self, bytes, input};
 use crate::reference::{MAX_WORDS, MINIMUM};
+use crate::retired::mixed_pair;
 use crate::samples::{call, ids, NO_CALL};
 use std::fmt::Arguments;
 
@@ -26,11 +27,11 @@ pub fn known_pairs() -> Vec<([Fish; 2], u32)> {
     known::rows().map(|row| known_pair(&row)).collect()
 }
 
-/// A random pair of fish with a minimum.
+/// A random pair of fish with a minimum, now and then with retired codes.
 pub fn any_fish_pair(g: &mut Group) -> ([Fish; 2], u32) {
     let random = &mut g.random;
     let (longest, codes) = (random.pick(&[8, 60, 200]), random.pick(&[1, 2, 3, 6, 40]));
-    let pair = any_pair(random, longest, codes);
+    let pair = mixed_pair(random, longest, codes);
     let table = ids(random);
     let fish = pair.map(|words| Fish::new(random.pick(&table), &words));
     (fish, random.pick(&[1, 1, 2, 3, 8, 19, 20, 21, 40, 256]))

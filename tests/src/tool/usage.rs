@@ -8,7 +8,7 @@ use crate::group::Group;
 use crate::process::lossy;
 
 /// Each subcommand with its options.
-const OPTIONS: [(&str, &[&str]); 6] = [
+const OPTIONS: [(&str, &[&str]); 7] = [
     ("encode", &["-o", "--output", "-h", "--help"]),
     ("decode", &["-o", "--output", "-h", "--help"]),
     (
@@ -58,6 +58,7 @@ const OPTIONS: [(&str, &[&str]); 6] = [
             "--help",
         ],
     ),
+    ("codes", &["-o", "--output", "-h", "--help"]),
 ];
 
 /// Arguments after `compare`, `plot` and `matrix` alike.
@@ -126,11 +127,13 @@ const ROWS: &[(&str, &[&str])] = &[
     ("matrix", &["matrix", "-m", "1", "a", "--threads", "1", "--threads=1"]),
     ("matrix", &["matrix", "-m", "1", "a", "--pairs", "--part", "1/2", "--part", "1/2"]),
     ("matrix", &["matrix", "-m", "1", "a", "-o"]),
+    ("codes", &["codes", "-x"]), ("codes", &["codes", "--nonsense"]), ("codes", &["codes", "-m", "1"]), ("codes", &["codes", "--json"]),
+    ("codes", &["codes", "-o"]), ("codes", &["codes", "-o", "x", "-o", "x"]), ("codes", &["codes", "a", "a"]), ("codes", &["codes", "-"]),
 ];
 
 /// Arguments that are refused with these words.
 #[rustfmt::skip]
-const MESSAGES: [(&str, &[&str]); 9] = [
+const MESSAGES: [(&str, &[&str]); 10] = [
     ("--all does not go with --json", &["cover", "a", "--all", "--json"]),
     ("--json does not go with --all", &["cover", "--json", "--all", "a"]),
     ("--all does not go with --plot", &["cover", "--all", "a", "--plot"]),
@@ -140,6 +143,7 @@ const MESSAGES: [(&str, &[&str]); 9] = [
     ("--part goes with --pairs only", &["matrix", "-m", "1", "a", "--part", "1/2"]),
     ("--fish is given twice", &["compare", "-m", "1", "a", "--fish", "1,2", "--fish", "3,4"]),
     ("--fish is given twice", &["plot", "-m", "1", "a", "--fish", "1,2", "--fish=3,4"]),
+    ("a file is named, but none is taken", &["codes", "a"]),
 ];
 
 /// The tool must call these arguments bad usage, and hint at a subcommand's help.
