@@ -7,11 +7,12 @@ use native.Mathlib.Omega.{arith}
 use mathlib.Core.Path.{_≡_, refl, sym, _∙_}
 use mathlib.Core.Bool.{Bool, true, false, _&&_}
 use mathlib.Core.List.{List, [], _∷_}
-use borrow.Author.Tests.{le-leb, leb-true}
-use lib.Dec.{leb}
+use borrow.Author.Tests.{le-leb, leb-true, ltb-true}
+use lib.Dec.{leb, ltb}
 use mir.Val.{boolByte}
 use lib.ListN.{getD}
 use Rattle.symbol.specs.Word.{code, isCall, replacements, isRetired, replaced, equalCalls, matches}
+use Rattle.symbol.specs.Sequence.{every}
 use Rattle.symbol.proofs.Word.{and-both, and-left, and-right, same, call-in, call-range, calls-equal, calls-call, calls-self, no-call-left, no-call-right}
 
 -- ---- the retired calls as a range of numbers
@@ -38,21 +39,17 @@ retired-test w =
     (λ e. retired-in w (leb-true _ _ (and-left _ _ e)) (leb-true _ _ (and-right (leb 0x4000_fde8 w) _ e)))
     (λ e. let r = retired-range w e in and-both (le-leb _ _ (r .least)) (le-leb _ _ (r .most)))
 
--- ---- the table: a test of each entry, computed once, holds of what stands at any index
-all-below : ℕ → List ℕ → Bool
-all-below n [] = true
-all-below n (x ∷ xs) = leb (suc x) n && all-below n xs
-
-below-at : (n : ℕ) (xs : List ℕ) → all-below n xs ≡ true → 0 < n → (i : ℕ) → getD xs i 0 < n
-unfolding all-below
-below-at n [] e h i = h
-below-at n (x ∷ xs) e h zero = leb-true (suc x) n (and-left _ _ e)
-below-at n (x ∷ xs) e h (suc i) = below-at n xs (and-right (leb (suc x) n) _ e) h i
+-- ---- the table: a test of each entry, computed once, holds of what stands at any index, and of the 0 past the end
+every-at : (test : ℕ → Bool) (xs : List ℕ) → every test xs ≡ true → test 0 ≡ true → (i : ℕ) → test (getD xs i 0) ≡ true
+unfolding every
+every-at test [] e z i = z
+every-at test (x ∷ xs) e z zero = and-left (test x) _ e
+every-at test (x ∷ xs) e z (suc i) = every-at test xs (and-right (test x) _ e) z i
 
 -- No code that stands for a retired one is retired.
 pub entry-below : (i : ℕ) → getD replacements i 0 < 65000
-unfolding all-below replacements
-entry-below = below-at 65000 replacements refl (omega arith)
+unfolding every replacements
+entry-below i = ltb-true (getD replacements i 0) 65000 (every-at (λ x. ltb x 65000) replacements refl refl i)
 
 -- ---- the replaced word
 pub replaced-none : (w : ℕ) → isRetired w ≡ false → replaced w ≡ w
@@ -136,27 +133,17 @@ unfolding matches
 match-current a b e f = rw (e, f) refl
 
 -- ---- what the code computes: one of two words, by a test that counts as 1 or 0
-module _ (t : Bool) (x y : ℕ) where
-  pub chosen-first : x < 2 ^ 32 → boolByte t * x < 2 ^ 32
-  chosen-first = go t
-    where
-      go : (t : Bool) → x < 2 ^ 32 → boolByte t * x < 2 ^ 32
-      go true h = omega arith
-      go false h = omega arith
+pub chosen-first : (t : Bool) (x : ℕ) → x < 2 ^ 32 → boolByte t * x < 2 ^ 32
+chosen-first true x h = omega arith
+chosen-first false x h = omega arith
 
-  pub chosen-second : y < 2 ^ 32 → (1 - boolByte t) * y < 2 ^ 32
-  chosen-second = go t
-    where
-      go : (t : Bool) → y < 2 ^ 32 → (1 - boolByte t) * y < 2 ^ 32
-      go true h = omega arith
-      go false h = omega arith
+pub chosen-second : (t : Bool) (y : ℕ) → y < 2 ^ 32 → (1 - boolByte t) * y < 2 ^ 32
+chosen-second true y h = omega arith
+chosen-second false y h = omega arith
 
-  pub chosen-fits : x < 2 ^ 32 → y < 2 ^ 32 → boolByte t * x + (1 - boolByte t) * y < 2 ^ 32
-  chosen-fits = go t
-    where
-      go : (t : Bool) → x < 2 ^ 32 → y < 2 ^ 32 → boolByte t * x + (1 - boolByte t) * y < 2 ^ 32
-      go true h k = omega arith
-      go false h k = omega arith
+pub chosen-fits : (t : Bool) (x y : ℕ) → x < 2 ^ 32 → y < 2 ^ 32 → boolByte t * x + (1 - boolByte t) * y < 2 ^ 32
+chosen-fits true x y h k = omega arith
+chosen-fits false x y h k = omega arith
 
 pub one-most : (t : Bool) → boolByte t ≤ 1
 one-most true = omega arith

@@ -16,7 +16,7 @@ use Rattle.tiling.specs.Each.{Each, none, also, Pairs}
 use Rattle.tiling.specs.Greedy.{after, Begins}
 use Rattle.tiling.specs.Tiling.{Tile, Lies, start, size, lay, tiling}
 use Rattle.tiling.specs.Choice.{firstIsPattern, EitherWay}
-use Rattle.tiling.specs.Listing.{Entry, straight, crossed, listing, covered, score}
+use Rattle.tiling.specs.Listing.{Entry, straight, crossed, listedBy, listing, covered, score}
 use Rattle.tiling.specs.Demand.{FreeRun, Stands, Apart, onFirst, onSecond, long, smallerCounts, exchanged, EqualStarts, Tiled}
 use Rattle.tiling.proofs.Run.{run-least}
 use Rattle.tiling.proofs.Each.{each-map, each-unmap, pairs-map}
@@ -215,7 +215,7 @@ pub listing-begins : (first second : List ℕ) (minimum longer : ℕ) → 1 ≤ 
 unfolding listing
 listing-begins first second minimum longer one le = go (firstIsPattern first second)
   where
-    go : (b : Bool) → Begins long longer (elim b [ true ↦ map straight (tiling longer (start first second)) | false ↦ map crossed (tiling longer (start second first)) ]) (elim b [ true ↦ map straight (tiling minimum (start first second)) | false ↦ map crossed (tiling minimum (start second first)) ])
+    go : (b : Bool) → Begins long longer (listedBy b (tiling longer) first second) (listedBy b (tiling minimum) first second)
     go true = begins-map straight (λ k. refl) longer _ _ (tiling-begins minimum longer one le (start first second))
     go false = begins-map crossed (λ k. refl) longer _ _ (tiling-begins minimum longer one le (start second first))
 

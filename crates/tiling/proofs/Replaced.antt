@@ -19,7 +19,7 @@ use Rattle.tiling.specs.Run.{leading, run, equalRun, mark}
 use Rattle.tiling.specs.Greedy.{peak, greedy}
 use Rattle.tiling.specs.Demand.{isCallWith, callsWith, smallerCounts}
 use Rattle.tiling.specs.Choice.{firstIsPattern}
-use Rattle.tiling.specs.Listing.{straight, crossed, listing, outsideListing}
+use Rattle.tiling.specs.Listing.{straight, crossed, listedBy, listing, outsideListing}
 use Rattle.tiling.specs.Tiling.{Tile, State, lay, size, runBy, bestTextBy, rowLengthBy, bestBy, tilingBy, runAt, bestText, rowLength, best, tiling, start, replacedIn, AllCurrent}
 use Rattle.tiling.proofs.Tally.{tally-map}
 use Rattle.tiling.proofs.Choice.{by-length}
@@ -110,18 +110,21 @@ tiling-replaced minimum s =
 -- So what an outside comparison lists is the listing.
 pub listing-outside : (first second : List ℕ) (minimum : ℕ) → outsideListing first second minimum ≡ listing first second minimum
 unfolding outsideListing listing
-listing-outside first second minimum =
-    let straight-same = ap (map straight) (tiling-outside minimum (start first second)) in
-    let crossed-same = ap (map crossed) (tiling-outside minimum (start second first)) in
-    λ i. elim (firstIsPattern first second) [ true ↦ straight-same i | false ↦ crossed-same i ]
+listing-outside first second minimum = go (firstIsPattern first second)
+  where
+    go : (b : Bool) → listedBy b (tilingBy equalCalls minimum) (map replaced first) (map replaced second) ≡ listedBy b (tiling minimum) first second
+    go true = ap (map straight) (tiling-outside minimum (start first second))
+    go false = ap (map crossed) (tiling-outside minimum (start second first))
 
 -- Our own listing of the replaced words is the same too, where they choose the same pattern; so it is where the lengths differ.
 pub listing-replaced : (first second : List ℕ) (minimum : ℕ) → firstIsPattern (map replaced first) (map replaced second) ≡ firstIsPattern first second → listing (map replaced first) (map replaced second) minimum ≡ listing first second minimum
 unfolding listing
 listing-replaced first second minimum e =
-    let straight-same = ap (map straight) (tiling-replaced minimum (start first second)) in
-    let crossed-same = ap (map crossed) (tiling-replaced minimum (start second first)) in
-    λ i. elim (e i) [ true ↦ straight-same i | false ↦ crossed-same i ]
+    ap (λ b. listedBy b (tiling minimum) (map replaced first) (map replaced second)) e ∙ go (firstIsPattern first second)
+  where
+    go : (b : Bool) → listedBy b (tiling minimum) (map replaced first) (map replaced second) ≡ listedBy b (tiling minimum) first second
+    go true = ap (map straight) (tiling-replaced minimum (start first second))
+    go false = ap (map crossed) (tiling-replaced minimum (start second first))
 
 pub listing-by-length : (first second : List ℕ) (minimum : ℕ) → (length first ≡ length second → ⊥) → listing (map replaced first) (map replaced second) minimum ≡ listing first second minimum
 listing-by-length first second minimum d =

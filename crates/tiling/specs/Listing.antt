@@ -1,10 +1,10 @@
 -- The tiles as they are listed for the two sequences as handed in, and the numbers that a comparison answers.
 use Prim.Native.Nat.{ℕ, zero, suc, _+_, _*_, _/_}
-use mathlib.Core.Bool.{true, false}
+use mathlib.Core.Bool.{Bool, true, false}
 use mathlib.Core.List.{List, [], _∷_, map}
 use lib.IntN.{ℤ, pos, _-ℤ_}
 use Rattle.symbol.specs.Word.{replaced, equalCalls}
-use Rattle.tiling.specs.Tiling.{Tile, start, tilingBy, tiling}
+use Rattle.tiling.specs.Tiling.{Tile, State, start, tilingBy, tiling}
 use Rattle.tiling.specs.Choice.{firstIsPattern}
 
 -- A listed tile: "start on the first strand, start on the second strand, length. First and second mean as handed in, not
@@ -20,19 +20,18 @@ straight k = record { first = k .p; second = k .t; len = k .len }
 abbrev pub crossed : Tile → Entry
 crossed k = record { first = k .t; second = k .p; len = k .len }
 
+-- What a tiling of pattern and text lays for two sequences, of which the first or the second is the pattern.
+abbrev pub listedBy : Bool → (State → List Tile) → List ℕ → List ℕ → List Entry
+listedBy true tiles first second = map straight (tiles (start first second))
+listedBy false tiles first second = map crossed (tiles (start second first))
+
 unfoldable pub listing : List ℕ → List ℕ → ℕ → List Entry
-listing first second minimum =
-    elim (firstIsPattern first second)
-    [ true ↦ map straight (tiling minimum (start first second)) | false ↦ map crossed (tiling minimum (start second first)) ]
+listing first second minimum = listedBy (firstIsPattern first second) (tiling minimum) first second
 
 -- "An outside comparison runs on strands replaced beforehand, except for the choice of pattern." (02, U4) It knows 01's match alone, and no
 -- retired code.
 unfoldable pub outsideListing : List ℕ → List ℕ → ℕ → List Entry
-outsideListing first second minimum =
-    elim (firstIsPattern first second) [
-      | true ↦ map straight (tilingBy equalCalls minimum (start (map replaced first) (map replaced second)))
-      | false ↦ map crossed (tilingBy equalCalls minimum (start (map replaced second) (map replaced first)))
-    ]
+outsideListing first second minimum = listedBy (firstIsPattern first second) (tilingBy equalCalls minimum) (map replaced first) (map replaced second)
 
 -- "A tile is three words in the tile buffer", in the order laid.
 unfoldable pub tileWords : List Entry → List ℕ

@@ -139,8 +139,8 @@ fn hash_refusal(words: &[u32], window: u32, room: usize) -> u32
     0
 }
 
-// Fills the start of buffer with the hash at each position where a window of the given length fits, for multiplier b, and
-// answers how many there are. Refused: 1 for more than 2,048 words, 2 for an unsound word, 5 for a length outside 1 to
+// Fills the start of buffer with the hash at each position where a window of the given length fits, for multiplier b and of
+// replaced words, and answers how many there are. Refused: 1 for more than 2,048 words, 2 for an unsound word, 5 for a length outside 1 to
 // 2,048, 11 where buffer is too short; buffer is then as it was.
 pub fn hash_list(words: &[u32], b: u32, window: u32, buffer: &mut [u32]) -> Counted
     ensures { λ r. ⌜ r ≡ hashAnswer (now (words .entry)) window (length (now (buffer .entry))) ⌝ }
