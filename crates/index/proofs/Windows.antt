@@ -5,12 +5,13 @@
 use Prim.Native.Nat.{ℕ, _+_, _-_, _≤_, _<_}
 use native.Mathlib.Omega.{arith}
 use mathlib.Core.Path.{_≡_, refl, sym, _∙_, ap}
-use mathlib.Core.Bool.{Bool, true, false, _&&_}
+use mathlib.Core.Bool.{Bool, true, false}
 use mathlib.Core.List.{List, _++_}
 use borrow.Author.Tests.{le-leb, eq-eqb, eqb-true}
 use lib.Dec.{leb, eqb}
 use lib.ListN.{length, take, drop, getD, length-drop, length-append, List·getD-append}
 use lib.Seq.{length-take-le, take-take, take-add, drop-at, take-at, getD-append-add, take-append-le, drop-append-le, drop-append-add}
+use Rattle.symbol.proofs.Word.{and-both, and-right}
 use Rattle.buffer.specs.Buffer.{onto}
 use Rattle.buffer.proofs.Buffer.{length-onto}
 use Rattle.tiling.specs.Tiling.{State, runAt}
@@ -37,13 +38,6 @@ drop-front : (a b : ℕ) (xs : List ℕ) → a ≤ length xs → drop a (take (a
 drop-front a b xs h = rw (take-add a b xs) (drop-at (take a xs) (take b (drop a xs)) a (length-take-le a xs h))
 
 -- ---- what the search may go by
-both-true : (a b : Bool) → a ≡ true → b ≡ true → (a && b) ≡ true
-both-true a b e k = rw (e, k) refl
-
-second-true : (a b : Bool) → (a && b) ≡ true → b ≡ true
-second-true true b e = e
-second-true false b e = cc
-
 module _ (x : Pass) (ws hs : List ℕ) (fs : List Bool) (ranges : Ranges x) (space : Space (x .job) ws) (on-pattern : (p : ℕ) → p + x .s ≤ x .job .n → patternHash (x .job) ws p ≡ hashAt (x .multiplier) (x .s) (state (x .job) ws .pattern) p) (on-text : (t : ℕ) → t + x .s ≤ x .job .m → textHash (x .job) ws t ≡ hashAt (x .multiplier) (x .s) (state (x .job) ws .text) t) (heads : (b : ℕ) → b < 1024 → getD hs b 0 ≡ nextIn x ws b 0) (links : (t : ℕ) → t < x .job .m → link (x .job) ws t ≡ nextIn x ws (bucket (x .buckets) (textHash (x .job) ws t)) (t + 1)) (known : (t : ℕ) → x .s ≤ freeAt (x .job) ws t → getD fs (slot (textHash (x .job) ws t)) false ≡ true) where
   abbrev bucketAt : ℕ → ℕ
   bucketAt t = bucket (x .buckets) (textHash (x .job) ws t)
@@ -53,7 +47,7 @@ module _ (x : Pass) (ws hs : List ℕ) (fs : List Bool) (ranges : Ranges x) (spa
   passes b t l =
       let r = nextIn x ws b t in
       let e : inBucket x ws b r ≡ true = first-passes (inBucket x ws b) t (x .job .m - t) (omega (arith, space .short-text)) in
-      eqb-true (bucketAt r) b (second-true (leb (x .s) (freeAt (x .job) ws r)) (eqb (bucketAt r) b) e)
+      eqb-true (bucketAt r) b (and-right (leb (x .s) (freeAt (x .job) ws r)) (eqb (bucketAt r) b) e)
 
   module _ (p u : ℕ) (h : x .s ≤ runAt (state (x .job) ws) p u) where
     same-hash : textHash (x .job) ws u ≡ patternHash (x .job) ws p
@@ -73,7 +67,7 @@ module _ (x : Pass) (ws hs : List ℕ) (fs : List Bool) (ranges : Ranges x) (spa
     -- Its window is free and in the bucket of the pattern's.
     found : (b : ℕ) → b ≡ bucket (x .buckets) (patternHash (x .job) ws p) → inBucket x ws b u ≡ true
     found b e =
-        both-true (leb (x .s) (freeAt (x .job) ws u)) (eqb (bucketAt u) b) (le-leb (x .s) (freeAt (x .job) ws u) free)
+        and-both (le-leb (x .s) (freeAt (x .job) ws u) free)
         (eq-eqb (bucketAt u) b (ap (bucket (x .buckets)) same-hash ∙ sym e))
 
     not-past : (b t : ℕ) → b ≡ bucket (x .buckets) (patternHash (x .job) ws p) → t ≤ u → nextIn x ws b t ≤ u

@@ -152,7 +152,7 @@ one-most false = omega arith
 pub entry-fits : (i : ℕ) → 0x4000_0000 + getD replacements i 0 < 2 ^ 32
 entry-fits i = omega (arith, entry-below i)
 
--- The entry that is read: a retired code is as far from the first as its lower four bits say.
+-- The entry that is read: a retired code is as far from the first as its lower four bits and 8, modulo 16, say.
 pub replaced-by : (w : ℕ) (t : Bool) → t ≡ isRetired w → boolByte t * (0x4000_0000 + getD replacements ((w % 16 + 8) % 16) 0) + (1 - boolByte t) * w ≡ replaced w
 unfolding code
 replaced-by w true e =
@@ -161,6 +161,7 @@ replaced-by w true e =
     rw i (omega (arith, replaced-some w (sym e)))
 replaced-by w false e = omega (arith, replaced-none w (sym e))
 
+-- The match as it is computed, from the two words replaced.
 pub match-by : (a b x y : ℕ) (r : Bool) → r ≡ equalCalls x y → x ≡ replaced a → y ≡ replaced b → r ≡ matches a b
 unfolding matches
 match-by a b x y r e p q = rw (p, q) at e

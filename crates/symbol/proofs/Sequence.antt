@@ -40,6 +40,7 @@ module _ (test : ℕ → Bool) where
   pub passed-all : (s : List ℕ) (i : ℕ) (all : Bool) → Passed s i all → length s ≤ i → all ≡ every test s
   passed-all s i all r h = rw (take-all i s h) at (r .held)
 
+-- The contrary of a test.
 pub unlike : (r t : Bool) → r ≡ t → not r ≡ not t
 unlike r t e = rw e refl
 
@@ -71,9 +72,6 @@ current-replaced (w ∷ ws) = rw (replaced-twice w, current-replaced ws) refl
 
 pub current-at : (ws : List ℕ) → Current ws → (i : ℕ) → replaced (getD ws i 0) ≡ getD ws i 0
 current-at ws c i = sym (getD-replaced ws i) ∙ ap (λ xs. getD xs i 0) c
-
-pub current-take : (n : ℕ) (ws : List ℕ) → Current ws → Current (take n ws)
-current-take n ws c = sym (take-replaced n ws) ∙ ap (take n) c
 
 pub current-drop : (n : ℕ) (ws : List ℕ) → Current ws → Current (drop n ws)
 current-drop n ws c = sym (drop-replaced n ws) ∙ ap (drop n) c

@@ -1,4 +1,5 @@
--- The list of hashes as the code makes it, of words as they stand and of replaced words: the hashes before i stand in the buffer, and rolling the hash at i gives that at i + 1.
+-- The list of hashes as the code makes it, of words as they stand and of replaced words: the hashes before i stand in the buffer, and rolling
+-- the hash at i gives that at i + 1.
 -- Assumes nothing.
 use Prim.Native.Nat.{ℕ, zero, suc, _+_, _-_, _*_, _%_, _^_, _≤_, _<_}
 use native.Mathlib.Nat.{sub-zero, pos-of-ne-zero}
