@@ -1,7 +1,7 @@
 -- Looking for the first number that has a property, one number after another.
 -- Assumes nothing.
 use Prim.Native.Nat.{ℕ, _+_, _-_, _≤_, _<_}
-use native.Mathlib.Decide.{ℕ-discrete}
+use native.Mathlib.Decide.{decLt}
 use native.Mathlib.Omega.{arith}
 use mathlib.Core.Path.{_≡_}
 use Rattle.sweep.specs.First.{First}
@@ -16,12 +16,12 @@ pub passing-none : (Q : ℕ → Type 0) (from n : ℕ) → from ≤ n → Passin
 passing-none Q from n h = record { least = omega arith; within = h; none = λ k a b q. absurd (omega arith) }
 
 module _ (Q : ℕ → Type 0) (from n i : ℕ) (r : Passing Q from n i) where
-  pub passing-more : i < n → (Q i → ⊥) → Passing Q from n (i + 1)
-  passing-more h d = record { least = omega (arith, r .least); within = omega arith; none = λ k a b. none k a b (ℕ-discrete k i) }
+  pub passing-to : (next : ℕ) → i ≤ next → next ≤ n → ((k : ℕ) → i ≤ k → k < next → Q k → ⊥) → Passing Q from n next
+  passing-to next h l d = record { least = omega (arith, r .least); within = l; none = λ k a b. none k a b (decLt k i) }
     where
-      none : (k : ℕ) → from ≤ k → k < i + 1 → Dec (k ≡ i) → Q k → ⊥
-      none k a b (yes e) = rw e d
-      none k a b (no l) = r .none k a (omega (arith, l))
+      none : (k : ℕ) → from ≤ k → k < next → Dec (k < i) → Q k → ⊥
+      none k a b (yes m) = r .none k a m
+      none k a b (no m) = d k (omega (arith, m)) b
 
   pub first-none : n ≤ i → First Q from n i
   first-none h = record { least = r .least; within = r .within; none = r .none; stops = λ l. absurd (omega arith) }

@@ -2,6 +2,8 @@ pub mod Workspace
 pub mod Most
 pub mod Row
 pub mod First
+pub mod Blocks
+pub mod Told
 pub mod Step
 pub mod Settled
 pub mod Turn

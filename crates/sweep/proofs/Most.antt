@@ -9,14 +9,6 @@ use mathlib.Core.List.{List}
 use lib.ListN.{length, getD}
 use Rattle.sweep.specs.Row.{Among, Greatest}
 
--- The greatest is below what all of them are below.
-pub greatest-below : (f : ℕ → ℕ) (n r l : ℕ) → Greatest f n r → 0 < l → ((i : ℕ) → i < n → f i < l) → r < l
-greatest-below f n r l g some below = go (decLt 0 r)
-  where
-    go : Dec (0 < r) → r < l
-    go (yes h) = let a = g .one h in omega (arith, a .here, below (a .at) (a .below))
-    go (no h) = omega (arith, h)
-
 pub record Seen (words : List ℕ) (i r : ℕ) : Type 0 where
   pub within : i ≤ length words
   pub greatest : Greatest (λ k. getD words k 0) i r

@@ -26,11 +26,10 @@ use Rattle.tile.specs.Listed.{listed}
 use Rattle.tiling.proofs.Demand.{covered-append}
 use Rattle.tile.proofs.Tail.{length-listed, listed-more}
 use Rattle.sweep.specs.Workspace.{Space, state, boundsFrom, bound, laid}
-use Rattle.sweep.specs.Progress.{Onward, Bounded, Sweeping, Searched}
+use Rattle.sweep.specs.Progress.{Onward, Falling, Bounded, Sweeping, Searched}
 use Rattle.sweep.specs.declared.Job.{Job}
 use Rattle.sweep.specs.declared.Found.{Found}
 use Rattle.sweep.specs.declared.Totals.{Totals}
-use Rattle.sweep.proofs.Row.{row-small}
 use Rattle.sweep.proofs.Workspace.{state-set, state-laid, space-kept, space-laid, pattern-length, text-length, bound-covered, bound-before, bound-after}
 
 -- A row whose first word is marked has no run.
@@ -45,19 +44,9 @@ below-level j ws level p s b q t = go (decLt q (j .n))
     go (yes h) = omega (arith, b .upper q t h, b .capped q h)
     go (no h) = omega (arith, past-pattern (state j ws) q t (omega (arith, h, pattern-length j ws s)))
 
-module _ (j : Job) (level p : ℕ) (ws b : List ℕ) (k : Totals) (f : Found) (s : Sweeping j level p ws b k) (inside : p < j .n) (r : Searched j ws level p f) where
-  -- What was found is at most the level.
-  pub found-most : f .len ≤ level
-  found-most = go (decLt (r .floor) (f .len))
-    where
-      go : Dec (r .floor < f .len) → f .len ≤ level
-      go (yes h) = omega (arith, r .row .long h, below-level j ws level p (s .fits .space) (s .bounded) p (f .t .0))
-      go (no h) = omega (arith, h, r .below)
-
+module _ (j : Job) (level p : ℕ) (ws b : List ℕ) (k : Totals) (f : Found) (s : Sweeping j level p ws b k) (inside : p < j .n) (full-row : bound j ws p ≡ level) (r : Searched j ws level p f) where
   pub found-small : f .len ≤ 2048
-  found-small =
-      row-small (drop p (state j ws .pattern)) (state j ws .text) (r .floor) 2048 f (r .row) (r .low)
-      (omega (arith, length-drop p (state j ws .pattern), pattern-length j ws (s .fits .space), s .fits .space .short-pattern))
+  found-small = r .small
 
   -- ---- a shorter run is the row's new bound
   module _ (short : f .len ≡ level → ⊥) where
@@ -90,16 +79,23 @@ module _ (j : Job) (level p : ℕ) (ws b : List ℕ) (k : Totals) (f : Found) (s
         there q d = getD-set-other ws (boundsFrom j + p) (boundsFrom j + q) (f .len) 0 (λ e. d (omega arith))
 
         upper : (q t : ℕ) → q < j .n → Dec (q ≡ p) → runAt (state j ws) q t ≤ bound j (set ws (boundsFrom j + p) (f .len)) q
-        upper q t h (yes e) = rw e (omega (arith, here, r .row .most t))
+        upper q t h (yes e) = rw e (omega (arith, here, r .most t))
         upper q t h (no d) = omega (arith, there q d, s .bounded .upper q t h)
 
         capped : (q : ℕ) → q < j .n → Dec (q ≡ p) → bound j (set ws (boundsFrom j + p) (f .len)) q ≤ level
-        capped q h (yes e) = rw e (omega (arith, here, found-most))
+        capped q h (yes e) = rw e (omega (arith, here, r .within))
         capped q h (no d) = omega (arith, there q d, s .bounded .capped q h)
 
         passed : (q : ℕ) → q < p + 1 → Dec (q ≡ p) → bound j (set ws (boundsFrom j + p) (f .len)) q < level
-        passed q h (yes e) = rw e (omega (arith, here, found-most, short))
+        passed q h (yes e) = rw e (omega (arith, here, r .within, short))
         passed q h (no d) = omega (arith, there q d, s .bounded .passed q (omega (arith, d)))
+
+    lowered-falling : Falling j ws (set ws (boundsFrom j + p) (f .len))
+    lowered-falling = record { falls = λ q h. falls q (ℕ-discrete q p) }
+      where
+        falls : (q : ℕ) → Dec (q ≡ p) → bound j (set ws (boundsFrom j + p) (f .len)) q ≤ bound j ws q
+        falls q (yes e) = rw e (omega (arith, getD-set-same ws (boundsFrom j + p) (f .len) 0 (omega (arith, s .fits .space .roomy)), r .within, full-row))
+        falls q (no d) = omega (arith, getD-set-other ws (boundsFrom j + p) (boundsFrom j + q) (f .len) 0 (λ e. d (omega arith)))
 
     lowered-onward : Onward j ws b k (set ws (boundsFrom j + p) (f .len)) b k
     lowered-onward =
@@ -122,21 +118,21 @@ module _ (j : Job) (level p : ℕ) (ws b : List ℕ) (k : Totals) (f : Found) (s
       pub lowered-lays : Onward j ws b k ws' b k
       lowered-lays = subst (λ x. Onward j ws b k x b k) (sym w) lowered-onward
 
+      pub lowered-falls : Falling j ws ws'
+      lowered-falls = subst (λ x. Falling j ws x) (sym w) lowered-falling
+
   -- ---- a run of the level's length is the next tile
   module _ (full : f .len ≡ level) where
     abbrev pub next : Tile
     next = record { p = p; t = f .t .0; len = level }
 
-    above-floor : r .floor < f .len
-    above-floor = omega (arith, full, r .below)
-
     next-best : Best (state j ws) next
     next-best =
         record {
-          long = sym full ∙ sym (r .row .long above-floor);
+          long = sym (r .long full);
           most = below-level j ws level p (s .fits .space) (s .bounded);
           above = λ q t h. omega (arith, s .bounded .upper q t (omega arith), s .bounded .passed q h);
-          before = λ t h. omega (arith, full, r .row .first above-floor t h);
+          before = r .first full;
         }
 
     pub next-is : best (state j ws) ≡ next
@@ -290,6 +286,9 @@ module _ (j : Job) (level p : ℕ) (ws b : List ℕ) (k : Totals) (f : Found) (s
       module _ (ws' : List ℕ) (w : ws' ≡ laid j p (f .t .0) level ws) where
         pub stepped-sweep : Sweeping j level (p + 1) ws' b' (record { count = k .count + 1; covered = k .covered + level })
         stepped-sweep = subst (λ x. Sweeping j level (p + 1) x b' (record { count = k .count + 1; covered = k .covered + level })) (sym w) stepped
+
+        pub stepped-falls : Falling j ws ws'
+        stepped-falls = record { falls = λ q h. rw w (bound-falls q) }
 
         pub stepped-lays : Onward j ws b k ws' b' (record { count = k .count + 1; covered = k .covered + level })
         stepped-lays = subst (λ x. Onward j ws b k x b' (record { count = k .count + 1; covered = k .covered + level })) (sym w) stepped-onward

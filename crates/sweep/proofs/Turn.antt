@@ -1,18 +1,18 @@
 -- The turns of a sweep and of the levels, whichever way a row is searched. Contracts of the steps go from entry to exit and follow one
 -- another.
 -- Assumes nothing.
-use Prim.Native.Nat.{ℕ, _+_, _-_, _≤_, _<_}
+use Prim.Native.Nat.{ℕ, _+_, _-_, _≤_, _<_, min}
 use native.Mathlib.Decide.{ℕ-discrete}
 use native.Mathlib.Nat.{not-suc-le-zero}
 use native.Mathlib.Omega.{arith}
 use mathlib.Core.Path.{_≡_, refl, _∙_, ap, subst}
 use mathlib.Core.List.{List}
-use lib.ListN.{length, drop}
+use lib.ListN.{length, getD}
 use Rattle.sweep.specs.Workspace.{state, bound}
-use Rattle.sweep.specs.Row.{Row, Greatest}
-use Rattle.sweep.specs.Progress.{Fits, Bounded, Onward, Sweeping, Searched, Ready, Finished}
+use Rattle.sweep.specs.Row.{Greatest}
+use Rattle.sweep.specs.Blocks.{Covering}
+use Rattle.sweep.specs.Progress.{Fits, Bounded, Onward, Sweeping, Ready, Finished}
 use Rattle.sweep.specs.declared.Job.{Job}
-use Rattle.sweep.specs.declared.Found.{Found}
 use Rattle.sweep.specs.declared.Totals.{Totals}
 use Rattle.symbol.specs.Word.{isCall}
 use Rattle.tiling.specs.Tally.{tally}
@@ -20,7 +20,7 @@ use Rattle.tiling.specs.Tiling.{best, size, lay}
 use Rattle.tiling.specs.Greedy.{Greedy}
 use Rattle.tiling.proofs.Best.{best-is}
 use Rattle.sweep.proofs.Step.{below-level}
-use Rattle.sweep.proofs.Most.{greatest-below}
+use Rattle.sweep.proofs.Blocks.{covering-top}
 use Rattle.sweep.proofs.Workspace.{space-kept}
 
 pub onward-none : (j : Job) (ws b : List ℕ) (k : Totals) → Onward j ws b k ws b k
@@ -80,13 +80,6 @@ module _ (j : Job) (level p : ℕ) (ws b : List ℕ) (k : Totals) (s : Sweeping 
       passed q h (yes q≡p) = rw q≡p (omega (arith, s .bounded .capped p inside, e, d))
       passed q h (no n) = s .bounded .passed q (omega (arith, n))
 
-  -- A row that was searched for runs of at least n words.
-  pub row-searched : (n : ℕ) (f : Found) → 1 ≤ n → n ≤ 2048 → n ≤ level → Row (drop p (state j ws .pattern)) (state j ws .text) (n - 1) f → Searched j ws level p f
-  row-searched n f one small below r = record { floor = n - 1; low = omega arith; below = omega arith; row = r }
-
-  pub row-searched-least : (f : Found) → Row (drop p (state j ws .pattern)) (state j ws .text) (j .minimum - 1) f → Searched j ws level p f
-  row-searched-least f = row-searched (j .minimum) f (s .fits .least) (omega (arith, s .fits .most)) (s .long)
-
 -- ---- a sweep
 pub record Swept (j : Job) (level : ℕ) (ws₀ b₀ : List ℕ) (k₀ : Totals) (ws b : List ℕ) (k : Totals) (p : ℕ) : Type 0 where
   pub sweeping : Sweeping j level p ws b k
@@ -110,55 +103,50 @@ pub swept-all : (j : Job) (level : ℕ) (ws b : List ℕ) (k : Totals) (p : ℕ)
 swept-all j level ws b k p s h = let e : p ≡ j .n = omega (arith, s .within) in rw e at s
 
 -- ---- the levels, down to runs of n words
-pub record Level (j : Job) (n : ℕ) (ws₀ b₀ : List ℕ) (k₀ : Totals) (ws b : List ℕ) (k : Totals) (level : ℕ) : Type 0 where
+pub record Level (j : Job) (n : ℕ) (ws₀ b₀ : List ℕ) (k₀ : Totals) (ws b : List ℕ) (k : Totals) (bs : List ℕ) (level : ℕ) : Type 0 where
   pub ready : Ready j ws b k
   pub enough : j .minimum ≤ n
-  pub greatest : Greatest (bound j ws) (j .n) level
+  pub covering : Covering j ws bs
+  pub capped : (q : ℕ) → q < j .n → bound j ws q ≤ level
   pub onward : Onward j ws₀ b₀ k₀ ws b k
   pub same-room : length ws ≡ length ws₀
   pub same-tiles : length b ≡ length b₀
 
-pub level-none : (j : Job) (n : ℕ) (ws b : List ℕ) (k : Totals) (level : ℕ) → j .minimum ≤ n → Ready j ws b k → Greatest (bound j ws) (j .n) level → Level j n ws b k ws b k level
-level-none j n ws b k level h r g =
-    record { ready = r; enough = h; greatest = g; onward = onward-none j ws b k; same-room = refl; same-tiles = refl }
+pub level-none : (j : Job) (n : ℕ) (ws b : List ℕ) (k : Totals) (bs : List ℕ) (level : ℕ) → j .minimum ≤ n → Ready j ws b k → Covering j ws bs → Greatest (λ c. getD bs c 0) 64 level → Level j n ws b k ws b k bs level
+level-none j n ws b k bs level h r c g =
+    record { ready = r; enough = h; covering = c; capped = covering-top j ws bs level (r .fits .space) c g; onward = onward-none j ws b k; same-room = refl; same-tiles = refl }
 
--- No bound exceeds the greatest.
-unswept : (j : Job) (n : ℕ) (ws₀ b₀ : List ℕ) (k₀ : Totals) (ws b : List ℕ) (k : Totals) (level : ℕ) → Level j n ws₀ b₀ k₀ ws b k level → Bounded j ws level 0
-unswept j n ws₀ b₀ k₀ ws b k level l = record { upper = l .ready .upper; capped = l .greatest .most; passed = λ q m. absurd (not-suc-le-zero m) }
+module _ (j : Job) (n : ℕ) (ws₀ b₀ : List ℕ) (k₀ : Totals) (ws b : List ℕ) (k : Totals) (bs : List ℕ) (level : ℕ) (l : Level j n ws₀ b₀ k₀ ws b k bs level) where
+  unswept : Bounded j ws level 0
+  unswept = record { upper = l .ready .upper; capped = l .capped; passed = λ q m. absurd (not-suc-le-zero m) }
 
--- So a sweep can begin.
-pub level-sweep : (j : Job) (n : ℕ) (ws₀ b₀ : List ℕ) (k₀ : Totals) (ws b : List ℕ) (k : Totals) (level : ℕ) → Level j n ws₀ b₀ k₀ ws b k level → n ≤ level → Sweeping j level 0 ws b k
-level-sweep j n ws₀ b₀ k₀ ws b k level l h =
-    record {
-      fits = l .ready .fits;
-      bounded = unswept j n ws₀ b₀ k₀ ws b k level l;
-      long = omega (arith, l .enough);
-      within = omega arith;
-    }
+  -- A sweep can begin.
+  pub level-sweep : n ≤ level → Sweeping j level 0 ws b k
+  level-sweep h = record { fits = l .ready .fits; bounded = unswept; long = omega (arith, l .enough); within = omega arith }
 
-module _ (j : Job) (level : ℕ) (ws' b' : List ℕ) (k' : Totals) (s : Sweeping j level (j .n) ws' b' k') (next : ℕ) (g : Greatest (bound j ws') (j .n) next) where
-  -- After a sweep every bound is below the level.
-  pub level-less : next < level
-  level-less = greatest-below (bound j ws') (j .n) next level g (omega (arith, s .fits .least, s .long)) (λ q h. s .bounded .passed q h)
-
-  pub level-more : (n : ℕ) (ws₀ b₀ ws b : List ℕ) (k₀ k : Totals) → Level j n ws₀ b₀ k₀ ws b k level → Onward j ws b k ws' b' k' → length ws' ≡ length ws → length b' ≡ length b → Level j n ws₀ b₀ k₀ ws' b' k' next
-  level-more n ws₀ b₀ ws b k₀ k l o v w =
+  -- After it every bound is below the level; and none exceeds the greatest of the blocks.
+  pub level-more : (ws' b' : List ℕ) (k' : Totals) (bs' : List ℕ) → Sweeping j level (j .n) ws' b' k' → Covering j ws' bs' → (top next : ℕ) → Greatest (λ c. getD bs' c 0) 64 top → next ≡ min (level - 1) top → Onward j ws b k ws' b' k' → length ws' ≡ length ws → length b' ≡ length b → Level j n ws₀ b₀ k₀ ws' b' k' bs' next
+  level-more ws' b' k' bs' s c top next g e o v w =
       record {
         ready = record { fits = s .fits; upper = s .bounded .upper };
         enough = l .enough;
-        greatest = g;
+        covering = c;
+        capped = λ q h. omega (arith, s .bounded .passed q h, covering-top j ws' bs' top (s .fits .space) c g q h, e);
         onward = onward-more j ws₀ b₀ ws b ws' b' k₀ k k' (l .onward) o;
         same-room = v ∙ l .same-room;
         same-tiles = w ∙ l .same-tiles;
       }
 
--- Below n nothing as long is left.
-pub level-done : (j : Job) (n : ℕ) (ws₀ b₀ : List ℕ) (k₀ : Totals) (ws b : List ℕ) (k : Totals) (level : ℕ) → Level j n ws₀ b₀ k₀ ws b k level → level < n → Finished j n ws₀ b₀ k₀ ws b k
-level-done j n ws₀ b₀ k₀ ws b k level l h =
-    let s = state j ws in
-    let none = unswept j n ws₀ b₀ k₀ ws b k level l in
-    record {
-      fits = l .ready .fits;
-      onward = l .onward;
-      short = omega (arith, best-is s .long, below-level j ws level 0 (l .ready .fits .space) none (best s .p) (best s .t));
-    }
+  -- The level falls, so this ends.
+  pub level-less : (top next : ℕ) → next ≡ min (level - 1) top → n ≤ level → next < level
+  level-less top next e h = omega (arith, e, l .enough, l .ready .fits .least)
+
+  -- Below n nothing as long is left.
+  pub level-done : level < n → Finished j n ws₀ b₀ k₀ ws b k
+  level-done h =
+      let s = state j ws in
+      record {
+        fits = l .ready .fits;
+        onward = l .onward;
+        short = omega (arith, best-is s .long, below-level j ws level 0 (l .ready .fits .space) unswept (best s .p) (best s .t));
+      }

@@ -2,7 +2,7 @@
 -- Assumes nothing.
 use Prim.Native.Nat.{ℕ, zero, suc, _+_, _-_, _*_, _≤_, _<_}
 use native.Mathlib.Omega.{arith}
-use mathlib.Core.Path.{_≡_, refl, sym, _∙_, subst}
+use mathlib.Core.Path.{_≡_, refl, sym, _∙_, ap, subst}
 use mathlib.Core.List.{List, [], _∷_}
 use lib.ListN.{length, take, drop, getD, set, length-drop}
 use lib.Seq.{length-take-le, getD-drop, getD-take, take-nil, take-set-le, drop-set-add}
@@ -111,19 +111,21 @@ bound-after j ws p t len q h k l = mark-after (boundsFrom j + p) len (mark (j .n
 pub laid-all : (j : Job) (p t len : ℕ) (ws ws₁ ws₂ ws₃ : List ℕ) → ws₁ ≡ mark p len ws → ws₂ ≡ mark (j .n + t) len ws₁ → ws₃ ≡ mark (2 * (j .n + j .m) + p) len ws₂ → ws₃ ≡ laid j p t len ws
 laid-all j p t len ws ws₁ ws₂ ws₃ a b c = rw (c, b, a) refl
 
--- The bounds as a part of the workspace.
-pub greatest-bounds : (j : Job) (ws : List ℕ) (w r : ℕ) → Space j ws → (let from = 2 * (j .n + j .m) in let part = take (from + j .n - from) (drop from ws) in Greatest (λ k. getD part k 0) (length part) w) → r ≡ w → Greatest (bound j ws) (j .n) r
-greatest-bounds j ws w r s g e =
-    let from = 2 * (j .n + j .m) in
-    let part = take (from + j .n - from) (drop from ws) in
-    let k : from + j .n - from ≡ j .n = omega arith in
-    let n : length part ≡ j .n = length-take-le (from + j .n - from) (drop from ws) (omega (arith, length-drop from ws, s .roomy)) ∙ k in
-    let at : (i : ℕ) → i < j .n → getD part i 0 ≡ getD ws (from + i) 0 =
-    (λ i h. getD-take (from + j .n - from) (drop from ws) i 0 (omega arith) ∙ getD-drop from ws i 0) in
+-- The bounds of some rows as a part of the workspace.
+pub greatest-rows : (j : Job) (ws : List ℕ) (from to r : ℕ) → Space j ws → from ≤ to → to ≤ j .n → (let begin = 2 * (j .n + j .m) + from in let end = 2 * (j .n + j .m) + to in let part = take (end - begin) (drop begin ws) in Greatest (λ k. getD part k 0) (length part) r) → Greatest (λ i. bound j ws (from + i)) (to - from) r
+greatest-rows j ws from to r s h l g =
+    let begin = 2 * (j .n + j .m) + from in
+    let count : 2 * (j .n + j .m) + to - begin ≡ to - from = omega arith in
+    let part = take (2 * (j .n + j .m) + to - begin) (drop begin ws) in
+    let n : length part ≡ to - from = length-take-le (2 * (j .n + j .m) + to - begin) (drop begin ws) (omega (arith, length-drop begin ws, s .roomy)) ∙ count in
+    let at : (i : ℕ) → i < to - from → getD part i 0 ≡ bound j ws (from + i) =
+    (λ i k.
+    let e : begin + i ≡ 2 * (j .n + j .m) + (from + i) = omega arith in
+    getD-take (2 * (j .n + j .m) + to - begin) (drop begin ws) i 0 (omega arith) ∙ (getD-drop begin ws i 0 ∙ ap (λ k. getD ws k 0) e)) in
     record {
-      most = λ i h. omega (arith, at i h, g .most i (omega (arith, n)), e);
+      most = λ i k. omega (arith, at i k, g .most i (omega (arith, n)));
       one = λ z.
-          let a = g .one (omega (arith, e)) in
-          let u : a .at < j .n = omega (arith, n, a .below) in
-          record { at = a .at; below = u; here = omega (arith, at (a .at) u, a .here, e) };
+          let a = g .one z in
+          let u : a .at < to - from = omega (arith, n, a .below) in
+          record { at = a .at; below = u; here = omega (arith, at (a .at) u, a .here) };
     }

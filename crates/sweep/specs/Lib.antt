@@ -1,5 +1,6 @@
 pub mod Workspace
 pub mod Row
+pub mod Blocks
 pub mod First
 pub mod Settled
 pub mod Progress

@@ -2,7 +2,7 @@
 use Prim.Native.Nat.{ℕ, _+_, _*_, _/_, _≤_, _<_}
 use mathlib.Core.Path.{_≡_}
 use mathlib.Core.List.{List, _++_, map}
-use lib.ListN.{length, take, drop}
+use lib.ListN.{length, take}
 use Rattle.symbol.specs.Word.{isCall}
 use Rattle.buffer.specs.Buffer.{onto}
 use Rattle.tiling.specs.Tiling.{Tile, State, runAt, best, size, lay}
@@ -11,7 +11,6 @@ use Rattle.tiling.specs.Tally.{tally}
 use Rattle.tiling.specs.Greedy.{Greedy}
 use Rattle.tile.specs.Listed.{listed}
 use Rattle.sweep.specs.Workspace.{Space, state, bound}
-use Rattle.sweep.specs.Row.{Row}
 use Rattle.sweep.specs.declared.Found.{Found}
 use Rattle.sweep.specs.declared.Job.{Job}
 use Rattle.sweep.specs.declared.Totals.{Totals}
@@ -38,6 +37,10 @@ pub record Laid (j : Job) (s₀ : State) (b₀ : List ℕ) (ws b : List ℕ) (k 
 pub record Onward (j : Job) (ws b : List ℕ) (k : Totals) (ws' b' : List ℕ) (k' : Totals) : Type 0 where
   pub keeps : (s₀ : State) (b₀ : List ℕ) → Laid j s₀ b₀ ws b k → Laid j s₀ b₀ ws' b' k'
 
+-- No bound rises.
+pub record Falling (j : Job) (ws ws' : List ℕ) : Type 0 where
+  pub falls : (q : ℕ) → q < j .n → bound j ws' q ≤ bound j ws q
+
 -- No run of a row exceeds its bound, no bound the level, and the rows before p are below the level.
 pub record Bounded (j : Job) (ws : List ℕ) (level p : ℕ) : Type 0 where
   pub upper : (q t : ℕ) → q < j .n → runAt (state j ws) q t ≤ bound j ws q
@@ -51,12 +54,14 @@ pub record Sweeping (j : Job) (level p : ℕ) (ws b : List ℕ) (k : Totals) : T
   pub long : j .minimum ≤ level
   pub within : p ≤ j .n
 
--- The row at p was searched, for runs longer than a floor below the level.
+-- The row at p was searched, or another row tells of it: no run of it exceeds the length found, which is at most the level. Where it is the
+-- level, a run of that length is at the position found, and no position before has one.
 pub record Searched (j : Job) (ws : List ℕ) (level p : ℕ) (f : Found) : Type 0 where
-  pub floor : ℕ
-  pub low : floor ≤ 2048
-  pub below : floor < level
-  pub row : Row (drop p (state j ws .pattern)) (state j ws .text) floor f
+  pub small : f .len ≤ 2048
+  pub within : f .len ≤ level
+  pub most : (t : ℕ) → runAt (state j ws) p t ≤ f .len
+  pub long : f .len ≡ level → runAt (state j ws) p (f .t .0) ≡ level
+  pub first : f .len ≡ level → (t : ℕ) → t < f .t .0 → runAt (state j ws) p t < level
 
 -- No run of a row exceeds its bound.
 abbrev pub Upper : Job → List ℕ → Type 0

@@ -1,14 +1,16 @@
 -- What searching a row promises, and the greatest of the bounds. No reader of the engines' contracts needs these: they tie the functions
 -- of the engines together.
 use Prim.Native.Nat.{ℕ, _≤_, _<_}
-use mathlib.Core.Bool.{true, false}
+use mathlib.Core.Bool.{true, false, _&&_}
 use mathlib.Core.Path.{_≡_}
 use mathlib.Core.List.{List}
 use lib.Dec.{ltb}
 use lib.ListN.{drop}
 use Rattle.tile.specs.declared.TextAt.{TextAt}
 use Rattle.tiling.specs.Run.{run}
+use Rattle.sweep.specs.Workspace.{state, bound}
 use Rattle.sweep.specs.declared.Found.{Found}
+use Rattle.sweep.specs.declared.Job.{Job}
 
 -- The longest run from the start of ps to a position of ts, and the first position that has it, if it is longer than the floor. No case
 -- for "none": what is found is then the floor.
@@ -32,3 +34,10 @@ pub record Among (f : ℕ → ℕ) (n r : ℕ) : Type 0 where
 pub record Greatest (f : ℕ → ℕ) (n r : ℕ) : Type 0 where
   pub most : (i : ℕ) → i < n → f i ≤ r
   pub one : 0 < r → Among f n r
+
+-- What row q tells of row p, of which no run exceeds cap: q's bound, where it is below cap and both rows begin with the same calls for more
+-- words than that; else cap.
+unfoldable pub boundBy : Job → List ℕ → ℕ → ℕ → ℕ → ℕ
+boundBy j ws p q cap =
+    elim (ltb (bound j ws q) cap && ltb (bound j ws q) (run (drop p (state j ws .pattern)) (drop q (state j ws .pattern))))
+    [ true ↦ bound j ws q | false ↦ cap ]

@@ -3,12 +3,16 @@
 use tile::PatternAt;
 use tile::TextAt;
 ghost use mathlib.Core.Path.{_≡_};
-ghost use Prim.Native.Nat.{_+_, _≤_, _<_, max};
-ghost use lib.ListN.{length, getD, set};
-ghost use Rattle.sweep.specs.Workspace.{Space, boundsFrom, bound, laid};
-ghost use Rattle.sweep.specs.Row.{better, Greatest};
+ghost use Prim.Native.Nat.{_+_, _-_, _*_, _/_, _≤_, _<_, min, max};
+ghost use lib.Dec.{ltb};
+ghost use lib.ListN.{length, drop, getD, set};
+ghost use Rattle.tiling.specs.Run.{run};
+ghost use Rattle.sweep.specs.Workspace.{Space, state, boundsFrom, bound, laid};
+ghost use Rattle.sweep.specs.Row.{better, Greatest, boundBy};
+ghost use Rattle.sweep.specs.First.{First};
+ghost use Rattle.sweep.specs.Blocks.{BlockSet, Refreshed, Covering, rowAfter};
 ghost use Rattle.sweep.specs.Settled.{settledWords, settledTiles, settledTotals};
-ghost use Rattle.sweep.specs.Progress.{Searched, Sweeping, Onward};
+ghost use Rattle.sweep.specs.Progress.{Searched, Sweeping, Onward, Falling};
 
 // What a comparison works on: the lengths of pattern and text, the minimum, and whether the first sequence is the pattern.
 pub struct Job {
@@ -88,14 +92,123 @@ fn larger(a: u32, b: u32) -> u32
     a
 }
 
-// The greatest bound of all rows.
-pub fn greatest_bound(ws: &[u32], job: Job) -> usize
-    requires { ⌜ Space job (now ws) ⌝ }
-    ensures { λ r. ⌜ Greatest (bound job (now (ws .entry))) (job .n) r ⌝ }
+// The smaller of two numbers.
+pub fn lesser(a: usize, b: usize) -> usize
+    ensures { λ r. ⌜ r ≡ min a b ⌝ }
 {
-    let from = 2 * (job.n + job.m);
-    let to = from + job.n;
-    wide(greatest(&ws[from..to]))
+    if b < a {
+        return b;
+    }
+    a
+}
+
+// The greatest bound of the rows from `from` up to `to`.
+fn greatest_bound(ws: &[u32], job: Job, from: usize, to: usize) -> u32
+    requires { ⌜ Space job (now ws) × (from ≤ to) × (to ≤ job .n) ⌝ }
+    ensures { λ r. ⌜ Greatest (λ i. bound job (now (ws .entry)) (from + i)) (to - from) r ⌝ }
+{
+    let start = 2 * (job.n + job.m);
+    let begin = start + from;
+    let end = start + to;
+    greatest(&ws[begin..end])
+}
+
+// Stores a word.
+fn store(words: &mut [u32], at: usize, value: u32)
+    requires { ⌜ at < length (now words) ⌝ }
+    ensures { λ r. ⌜ (now (words .exit) ≡ set (now (words .entry)) at value) × (getD (now (words .exit)) at 0 ≡ value) ⌝ }
+{
+    words[at] = value;
+}
+
+// Sets the greatest bound of a block of 32 rows anew.
+fn set_block(ws: &[u32], job: Job, blocks: &mut [u32; 64], b: usize)
+    requires { ⌜ Space job (now ws) × (32 * b < job .n) ⌝ }
+    ensures { λ r. ⌜ BlockSet job (now (ws .entry)) b (now (blocks .entry)) (now (blocks .exit)) ⌝ }
+{
+    let from = 32 * b;
+    let to = lesser(from + 32, job.n);
+    let most = greatest_bound(ws, job, from, to);
+    store(blocks, b, most);
+}
+
+// Sets the greatest bounds of the blocks from one up to another anew.
+pub fn refresh(ws: &[u32], job: Job, blocks: &mut [u32; 64], from: usize, to: usize)
+    requires { ⌜ Space job (now ws) × (to ≤ (job .n + 31) / 32) ⌝ }
+    ensures { λ r. ⌜ Refreshed job (now (ws .entry)) from to (now (blocks .entry)) (now (blocks .exit)) ⌝ }
+{
+    let mut b = from;
+    while b < to {
+        set_block(ws, job, blocks, b);
+        b += 1;
+    }
+}
+
+// The greatest of all blocks.
+pub fn top(blocks: &[u32; 64]) -> usize
+    ensures { λ r. ⌜ Greatest (λ b. getD (now (blocks .entry)) b 0) 64 r ⌝ }
+{
+    wide(greatest(blocks))
+}
+
+// The next row that may have the level for its bound, after one that has not: where the level is above the greatest bound of
+// its block, the first of the next block.
+fn row_after(blocks: &[u32; 64], level: usize, p: usize) -> usize
+    requires { ⌜ p < 2048 ⌝ }
+    ensures { λ r. ⌜ r ≡ rowAfter (now (blocks .entry)) level p ⌝ }
+{
+    let b = p / 32;
+    if wide(blocks[b]) < level {
+        return 32 * b + 32;
+    }
+    p + 1
+}
+
+// The first row from `from` on whose bound is the level, or one past the last. Blocks of rows that are below the level are
+// passed over.
+pub fn next_row(ws: &[u32], job: Job, blocks: &[u32; 64], level: usize, from: PatternAt) -> PatternAt
+    requires { ⌜ Space job (now ws) × (from .0 ≤ job .n) × Covering job (now ws) (now blocks) ⌝ }
+    ensures { λ r. ⌜ First (λ q. bound job (now (ws .entry)) q ≡ level) (from .0) (job .n) (r .0) ⌝ }
+{
+    let mut p = from.0;
+    while p < job.n && bound_of(ws, job, PatternAt(p)) != level {
+        p = lesser(row_after(blocks, level, p), job.n);
+    }
+    PatternAt(p)
+}
+
+// Whether two rows begin with the same calls for more than len words.
+fn alike(ws: &[u32], job: Job, p: PatternAt, q: PatternAt, len: usize) -> bool
+    requires { ⌜ Space job (now ws) × (p .0 < job .n) × (q .0 < job .n) ⌝ }
+    ensures { λ r. ⌜ r ≡ ltb len (run (drop (p .0) (state job (now (ws .entry)) .pattern)) (drop (q .0) (state job (now (ws .entry)) .pattern))) ⌝ }
+{
+    let a = p.0;
+    let b = q.0;
+    if job.n - a <= len {
+        return false;
+    }
+    if job.n - b <= len {
+        return false;
+    }
+    let a_end = a + len + 1;
+    let b_end = b + len + 1;
+    len < measure::longer_run(&ws[a..a_end], &ws[b..b_end], len)
+}
+
+// What row q tells of row p, of which no run exceeds cap: where both begin with the same calls for more words than q's bound,
+// no run of p exceeds that bound either. It is cap where q tells nothing.
+pub fn bound_by(ws: &[u32], job: Job, p: PatternAt, q: PatternAt, cap: usize) -> usize
+    requires { ⌜ Space job (now ws) × (p .0 < job .n) × (q .0 < job .n) ⌝ }
+    ensures { λ r. ⌜ r ≡ boundBy job (now (ws .entry)) (p .0) (q .0) cap ⌝ }
+{
+    let len = bound_of(ws, job, q);
+    if cap <= len {
+        return cap;
+    }
+    if !alike(ws, job, p, q, len) {
+        return cap;
+    }
+    len
 }
 
 // Marks the words of a tile on both sequences, and clears the bounds of the rows that it covers.
@@ -120,12 +233,13 @@ pub fn settle(
     tiles: &mut [u32],
     totals: Totals,
 ) -> Totals
-    requires { ⌜ Sweeping job level (p .0) (now ws) (now tiles) totals × (p .0 < job .n) × Searched job (now ws) level (p .0) found ⌝ }
+    requires { ⌜ Sweeping job level (p .0) (now ws) (now tiles) totals × (p .0 < job .n) × (bound job (now ws) (p .0) ≡ level) × Searched job (now ws) level (p .0) found ⌝ }
     ensures { λ r. ⌜ r ≡ settledTotals level found totals ⌝ }
     ensures { λ r. ⌜ now (ws .exit) ≡ settledWords job level (p .0) found (now (ws .entry)) ⌝ }
     ensures { λ r. ⌜ now (tiles .exit) ≡ settledTiles job level (p .0) found totals (now (tiles .entry)) ⌝ }
     ensures { λ r. ⌜ Sweeping job level (p .0 + 1) (now (ws .exit)) (now (tiles .exit)) r ⌝ }
     ensures { λ r. ⌜ Onward job (now (ws .entry)) (now (tiles .entry)) totals (now (ws .exit)) (now (tiles .exit)) r ⌝ }
+    ensures { λ r. ⌜ Falling job (now (ws .entry)) (now (ws .exit)) ⌝ }
 {
     if found.len != level {
         set_bound(ws, job, p, found.len);

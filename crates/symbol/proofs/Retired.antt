@@ -114,6 +114,11 @@ pub match-swap : (a b : ℕ) → matches a b ≡ true → matches b a ≡ true
 unfolding matches
 match-swap a b e = rw (← match-equal a b e) (match-self a (match-call a b e))
 
+-- Two words that match a third match one another.
+pub match-both : (a b c : ℕ) → matches a b ≡ true → matches a c ≡ true → matches b c ≡ true
+unfolding matches
+match-both a b c e f = rw (← match-equal a b e) f
+
 -- Other words match nothing, the word 0 and the no-call among them.
 pub no-match-left : (a b : ℕ) → isCall a ≡ false → matches a b ≡ false
 unfolding matches

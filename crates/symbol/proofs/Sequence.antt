@@ -73,5 +73,8 @@ current-replaced (w ∷ ws) = rw (replaced-twice w, current-replaced ws) refl
 pub current-at : (ws : List ℕ) → Current ws → (i : ℕ) → replaced (getD ws i 0) ≡ getD ws i 0
 current-at ws c i = sym (getD-replaced ws i) ∙ ap (λ xs. getD xs i 0) c
 
+pub current-take : (n : ℕ) (ws : List ℕ) → Current ws → Current (take n ws)
+current-take n ws c = sym (take-replaced n ws) ∙ ap (take n) c
+
 pub current-drop : (n : ℕ) (ws : List ℕ) → Current ws → Current (drop n ws)
 current-drop n ws c = sym (drop-replaced n ws) ∙ ap (drop n) c

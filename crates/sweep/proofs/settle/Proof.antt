@@ -1,8 +1,8 @@
 -- `sweep::settle` meets its contract: a run of the level's length is the next tile, for which there is room, and a shorter one is the row's
--- -- new bound.
+-- new bound.
 -- Assumes nothing.
 use Rattle.sweep.proofs.Settled.{settle-laid, settle-lowered}
-use Rattle.sweep.proofs.Step.{found-small, lowered-sweep, lowered-lays, in-pattern, in-text, tile-fits, text-small, level-small, count-small, count-fits, covered-fits, stepped-sweep, stepped-lays}
+use Rattle.sweep.proofs.Step.{found-small, lowered-sweep, lowered-lays, lowered-falls, in-pattern, in-text, tile-fits, text-small, level-small, count-small, count-fits, covered-fits, stepped-sweep, stepped-lays, stepped-falls}
 use borrow.Author.Needs.{needs}
 use Rattle.sweep.proofs.settle.Statement.{statement}
 use Rattle.sweep.proofs.settle.Tie as tie
@@ -14,7 +14,7 @@ same-length : tie.Need-same-length
 same-length c = search needs
 
 returns : tie.Need-returns
-returns c = (search settle-lowered, (search settle-lowered, (search settle-lowered, (search lowered-sweep, search lowered-lays))))
+returns c = (search settle-lowered, (search settle-lowered, (search settle-lowered, (search lowered-sweep, (search lowered-lays, search lowered-falls)))))
 
 lay-tile-requires : tie.Need-lay-tile-requires
 lay-tile-requires c κs = (search needs, search in-pattern, search in-text)
@@ -35,7 +35,7 @@ same-length-3 : tie.Need-same-length-3
 same-length-3 c = search needs
 
 returns-2 : tie.Need-returns-2
-returns-2 c = (search settle-laid, (search settle-laid, (search settle-laid, (search stepped-sweep, search stepped-lays))))
+returns-2 c = (search settle-laid, (search settle-laid, (search settle-laid, (search stepped-sweep, (search stepped-lays, search stepped-falls)))))
 
 pub settle-spec : {M : Type 1} → statement M
 settle-spec =

@@ -1,0 +1,142 @@
+-- Blocks of rows. What stands for a block is never below the bound of one of its rows: bounds only fall, and where it is set anew it is the
+-- greatest of them. So rows of a block that stands below a level are below it.
+-- Assumes nothing.
+use Prim.Native.Nat.{ℕ, _+_, _-_, _*_, _/_, _≤_, _<_, min, max}
+use native.Mathlib.Decide.{decLt, ℕ-discrete}
+use native.Mathlib.Omega.{arith}
+use mathlib.Core.Path.{_≡_, refl, sym, _∙_}
+use mathlib.Core.Bool.{Bool, true, false}
+use mathlib.Core.List.{List}
+use borrow.Author.Tests.{ltb-true, lt-ltb, le-ltb}
+use lib.Dec.{ltb}
+use lib.ListN.{length, getD, set}
+use lib.Seq.{getD-set-other}
+use Rattle.sweep.specs.Workspace.{Space, bound}
+use Rattle.sweep.specs.Row.{Greatest}
+use Rattle.sweep.specs.Blocks.{Tops, BlockSet, Refreshed, Covering, rowAfter}
+use Rattle.sweep.specs.Progress.{Falling}
+use Rattle.sweep.specs.declared.Job.{Job}
+use Rattle.sweep.proofs.First.{Passing, passing-to}
+
+-- ---- setting blocks anew
+pub block-made : (j : Job) (ws : List ℕ) (b to top : ℕ) (bs bs' : List ℕ) → to ≡ min (32 * b + 32) (j .n) → Greatest (λ i. bound j ws (32 * b + i)) (to - 32 * b) top → bs' ≡ set bs b top → getD bs' b 0 ≡ top → BlockSet j ws b bs bs'
+block-made j ws b to top bs bs' e g w h = record { top = top; tops = rw (← e) g; stored = w; here = h }
+
+pub record Refreshing (j : Job) (ws : List ℕ) (from to b : ℕ) (bs₀ bs : List ℕ) : Type 0 where
+  pub least : from ≤ b
+  pub most : b ≤ max from to
+  pub done : Refreshed j ws from b bs₀ bs
+
+pub refreshing-none : (j : Job) (ws : List ℕ) (from to : ℕ) (bs : List ℕ) → Refreshing j ws from to from bs bs
+refreshing-none j ws from to bs =
+    record {
+      least = omega arith;
+      most = omega arith;
+      done = record { anew = λ b h l. absurd (omega arith); before = λ b l. refl; after = λ b l. refl };
+    }
+
+module _ (j : Job) (ws : List ℕ) (from to b : ℕ) (bs₀ bs : List ℕ) (i : Refreshing j ws from to b bs₀ bs) where
+  pub refreshing-more : b < to → (bs' : List ℕ) → BlockSet j ws b bs bs' → Refreshing j ws from to (b + 1) bs₀ bs'
+  refreshing-more h bs' s =
+      record {
+        least = omega (arith, i .least);
+        most = omega (arith, i .least);
+        done =
+            record {
+              anew = λ c k l. anew c k l (ℕ-discrete c b);
+              before = λ c l. other c (λ e. omega (arith, i .least)) ∙ i .done .before c l;
+              after = λ c l. other c (λ e. omega arith) ∙ i .done .after c (omega arith);
+            };
+      }
+    where
+      other : (c : ℕ) → (c ≡ b → ⊥) → getD bs' c 0 ≡ getD bs c 0
+      other c d = rw (s .stored) (getD-set-other bs b c (s .top) 0 d)
+
+      anew : (c : ℕ) → from ≤ c → c < b + 1 → Dec (c ≡ b) → Tops j ws c (getD bs' c 0)
+      anew c k l (yes e) = rw (e, s .here) (s .tops)
+      anew c k l (no d) = rw (other c d) (i .done .anew c k (omega (arith, d)))
+
+  pub refreshing-all : to ≤ b → Refreshed j ws from to bs₀ bs
+  refreshing-all h =
+      record {
+        anew = λ c k l. i .done .anew c k (omega arith);
+        before = i .done .before;
+        after = λ c l. after c l (decLt c from);
+      }
+    where
+      after : (c : ℕ) → to ≤ c → Dec (c < from) → getD bs c 0 ≡ getD bs₀ c 0
+      after c l (yes m) = i .done .before c m
+      after c l (no m) = i .done .after c (omega (arith, m, i .most))
+
+-- ---- bounds of bounds
+-- A row's bound is one of its block's.
+tops-row : (j : Job) (ws : List ℕ) (q top : ℕ) → q < j .n → Tops j ws (q / 32) top → bound j ws q ≤ top
+tops-row j ws q top h t =
+    let at : 32 * (q / 32) + (q - 32 * (q / 32)) ≡ q = omega arith in
+    rw at at (t .most (q - 32 * (q / 32)) (omega arith))
+
+pub covering-falls : (j : Job) (ws ws' bs : List ℕ) → Covering j ws bs → Falling j ws ws' → Covering j ws' bs
+covering-falls j ws ws' bs c f = record { most = λ q h. omega (arith, c .most q h, f .falls q h) }
+
+pub covering-refreshed : (j : Job) (ws : List ℕ) (from to : ℕ) (bs bs' : List ℕ) → Covering j ws bs → Refreshed j ws from to bs bs' → Covering j ws bs'
+covering-refreshed j ws from to bs bs' c r = record { most = λ q h. most q h (decLt (q / 32) from) (decLt (q / 32) to) }
+  where
+    most : (q : ℕ) → q < j .n → Dec (q / 32 < from) → Dec (q / 32 < to) → bound j ws q ≤ getD bs' (q / 32) 0
+    most q h (yes l) d = rw (r .before (q / 32) l) (c .most q h)
+    most q h (no l) (yes m) = tops-row j ws q (getD bs' (q / 32) 0) h (r .anew (q / 32) (omega (arith, l)) m)
+    most q h (no l) (no m) = rw (r .after (q / 32) (omega (arith, m))) (c .most q h)
+
+-- All blocks set anew.
+pub covering-all : (j : Job) (ws bs bs' : List ℕ) → Refreshed j ws 0 ((j .n + 31) / 32) bs bs' → Covering j ws bs'
+covering-all j ws bs bs' r =
+    record { most = λ q h. tops-row j ws q (getD bs' (q / 32) 0) h (r .anew (q / 32) (omega arith) (omega arith)) }
+
+-- No bound exceeds the greatest of the blocks.
+pub covering-top : (j : Job) (ws bs : List ℕ) (top : ℕ) → Space j ws → Covering j ws bs → Greatest (λ b. getD bs b 0) 64 top → (q : ℕ) → q < j .n → bound j ws q ≤ top
+covering-top j ws bs top s c g q h = omega (arith, c .most q h, g .most (q / 32) (omega (arith, s .short-pattern)))
+
+pub top-all : (bs : List ℕ) (w r : ℕ) → Greatest (λ b. getD bs b 0) (length bs) w → length bs ≡ 64 → r ≡ w → Greatest (λ b. getD bs b 0) 64 r
+top-all bs w r g n e = rw (← n, e) g
+
+-- ---- the next row of a level
+-- A bound that was read.
+pub not-level : (j : Job) (ws : List ℕ) (level p r : ℕ) → r ≡ bound j ws p → (r ≡ level → ⊥) → bound j ws p ≡ level → ⊥
+not-level j ws level p r e d z = d (e ∙ z)
+
+pub is-level : (j : Job) (ws : List ℕ) (level p r : ℕ) → r ≡ bound j ws p → r ≡ level → bound j ws p ≡ level
+is-level j ws level p r e k = sym e ∙ k
+
+pub row-after-block : (bs : List ℕ) (level p w b : ℕ) → w ≡ getD bs (p / 32) 0 → b ≡ p / 32 → w < level → 32 * b + 32 ≡ rowAfter bs level p
+unfolding rowAfter
+row-after-block bs level p w b e k h = let l : getD bs (p / 32) 0 < level = omega (arith, e) in rw (rowAfter, lt-ltb (getD bs (p / 32) 0) level l, k) refl
+
+pub row-after-one : (bs : List ℕ) (level p w : ℕ) → w ≡ getD bs (p / 32) 0 → level ≤ w → p + 1 ≡ rowAfter bs level p
+unfolding rowAfter
+row-after-one bs level p w e h = let l : level ≤ getD bs (p / 32) 0 = omega (arith, e) in rw (rowAfter, le-ltb (getD bs (p / 32) 0) level l) refl
+
+module _ (Q : ℕ → Type 0) (j : Job) (ws bs : List ℕ) (level from p : ℕ) (covering : Covering j ws bs) (i : Passing Q from (j .n) p) (inside : p < j .n) where
+  -- It is further on, and none of the rows up to it has the level.
+  step : (c : Bool) → ltb (getD bs (p / 32) 0) level ≡ c → ((q : ℕ) → Q q → bound j ws q ≡ level) → (bound j ws p ≡ level → ⊥) → (next : ℕ) → next ≡ min (elim c [ true ↦ 32 * (p / 32) + 32 | false ↦ p + 1 ]) (j .n) → Passing Q from (j .n) next
+  step true e says d next m =
+      passing-to Q from (j .n) p i next (omega (arith, m)) (omega (arith, m))
+      (λ k a b z.
+      let same : k / 32 ≡ p / 32 = omega (arith, m) in
+      let low : getD bs (p / 32) 0 < level = ltb-true (getD bs (p / 32) 0) level e in
+      let most : bound j ws k ≤ getD bs (p / 32) 0 = rw same at (covering .most k (omega (arith, m))) in
+      omega (arith, says k z))
+  step false e says d next m =
+      passing-to Q from (j .n) p i next (omega (arith, m)) (omega (arith, m))
+      (λ k a b z. let same : k ≡ p = omega (arith, m) in d (rw same at (says k z)))
+
+  further : (c : Bool) → (next : ℕ) → next ≡ min (elim c [ true ↦ 32 * (p / 32) + 32 | false ↦ p + 1 ]) (j .n) → p < next
+  further true next m = omega (arith, m)
+  further false next m = omega (arith, m)
+
+  module _ (r next : ℕ) (e : r ≡ rowAfter bs level p) (m : next ≡ min r (j .n)) where
+    pub passing-row : ((q : ℕ) → Q q → bound j ws q ≡ level) → (bound j ws p ≡ level → ⊥) → Passing Q from (j .n) next
+    unfolding rowAfter
+    passing-row says d = step (ltb (getD bs (p / 32) 0) level) refl says d next (m ∙ rw e refl)
+
+    pub passing-less : j .n - next < j .n - p
+    unfolding rowAfter
+    passing-less = omega (arith, further (ltb (getD bs (p / 32) 0) level) next (m ∙ rw e refl))

@@ -1,0 +1,35 @@
+-- Blocks of 32 rows and the greatest bound of each. No reader of the engines' contracts needs these.
+use Prim.Native.Nat.{ℕ, _+_, _-_, _*_, _/_, _≤_, _<_, min}
+use mathlib.Core.Bool.{true, false}
+use mathlib.Core.Path.{_≡_}
+use mathlib.Core.List.{List}
+use lib.Dec.{ltb}
+use lib.ListN.{getD, set}
+use Rattle.sweep.specs.Workspace.{bound}
+use Rattle.sweep.specs.Row.{Greatest}
+use Rattle.sweep.specs.declared.Job.{Job}
+
+-- The number is the greatest bound of block b. The last block may have fewer rows than the others.
+abbrev pub Tops : Job → List ℕ → ℕ → ℕ → Type 0
+Tops j ws b r = Greatest (λ i. bound j ws (32 * b + i)) (min (32 * b + 32) (j .n) - 32 * b) r
+
+-- The greatest bound of one block was set anew.
+pub record BlockSet (j : Job) (ws : List ℕ) (b : ℕ) (bs bs' : List ℕ) : Type 0 where
+  pub top : ℕ
+  pub tops : Tops j ws b top
+  pub stored : bs' ≡ set bs b top
+  pub here : getD bs' b 0 ≡ top
+
+-- Those of the blocks from one up to another were, and the others are as they were.
+pub record Refreshed (j : Job) (ws : List ℕ) (from to : ℕ) (bs bs' : List ℕ) : Type 0 where
+  pub anew : (b : ℕ) → from ≤ b → b < to → Tops j ws b (getD bs' b 0)
+  pub before : (b : ℕ) → b < from → getD bs' b 0 ≡ getD bs b 0
+  pub after : (b : ℕ) → to ≤ b → getD bs' b 0 ≡ getD bs b 0
+
+-- No bound of a row exceeds what stands for its block. It may be less: bounds fall before their blocks are set anew.
+pub record Covering (j : Job) (ws bs : List ℕ) : Type 0 where
+  pub most : (q : ℕ) → q < j .n → bound j ws q ≤ getD bs (q / 32) 0
+
+-- Where the level is above what stands for the block of row p, the first row of the next block; else the next row.
+unfoldable pub rowAfter : List ℕ → ℕ → ℕ → ℕ
+rowAfter bs level p = elim (ltb (getD bs (p / 32) 0) level) [ true ↦ 32 * (p / 32) + 32 | false ↦ p + 1 ]
