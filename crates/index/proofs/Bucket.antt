@@ -4,7 +4,6 @@ use Prim.Native.Nat.{ℕ, _*_, _/_, _%_, _^_, _≤_, _<_}
 use native.Mathlib.Nat.{mod-lt}
 use native.Mathlib.Omega.{arith}
 use mathlib.Core.Path.{_≡_, refl, _∙_}
-use mathlib.Core.Bool.{Bool, true, false}
 use mathlib.Core.List.{List}
 use lib.ListN.{getD, set}
 use Rattle.window.specs.Hash.{bucket}
@@ -24,18 +23,23 @@ bucket-below k h a b = bucket-small k h a b
 pub bucket-fits : (k h : ℕ) → 1 ≤ k → k ≤ 1024 → h % k < 2 ^ 64
 bucket-fits k h a b = omega (arith, mod-lt h a)
 
-pub slot-is : (h : ℕ) → h * 2654435769 % 2 ^ 32 / 2 ^ 18 ≡ slot h
+pub slot-is : (h : ℕ) → h * 2654435769 % 2 ^ 32 / 2 ^ 20 ≡ slot h
 unfolding slot
 slot-is h = refl
 
-pub slot-small : (h : ℕ) → h * 2654435769 % 2 ^ 32 / 2 ^ 18 < 16384
+pub slot-small : (h : ℕ) → h * 2654435769 % 2 ^ 32 / 2 ^ 20 < 4096
 slot-small h = omega arith
 
-pub known-at : (seen : List Bool) (i h : ℕ) → i ≡ slot h → getD seen i false ≡ getD seen (slot h) false
-known-at seen i h e = rw e refl
+pub slot-below : (h : ℕ) → slot h < 4096
+unfolding slot
+slot-below h = slot-small h
 
-pub entered-at : (seen seen' : List Bool) (i h : ℕ) → i ≡ slot h → seen' ≡ set seen i true → seen' ≡ set seen (slot h) true
-entered-at seen seen' i h e w = w ∙ rw e refl
+pub entry-at : (filter : List ℕ) (i h : ℕ) → i ≡ slot h → getD filter i 0 ≡ getD filter (slot h) 0
+entry-at filter i h e = rw e refl
 
-pub entered-known : (seen : List Bool) (i h : ℕ) → i ≡ slot h → getD seen i false ≡ true → getD seen (slot h) false ≡ true
-entered-known seen i h e w = rw (← e) w
+module _ (filter filter' : List ℕ) (i h v : ℕ) (e : i ≡ slot h) where
+  pub entered-at : filter' ≡ set filter i v → filter' ≡ set filter (slot h) v
+  entered-at w = w ∙ rw e refl
+
+  pub entered-known : getD filter' i 0 ≡ v → getD filter' (slot h) 0 ≡ v
+  entered-known w = rw (← e) w

@@ -7,7 +7,8 @@ use native.Mathlib.Numerals.{add-one}
 use native.Mathlib.Omega.{arith}
 use mathlib.Core.Path.{_≡_, refl, sym, _∙_, ap}
 use mathlib.Core.Bool.{Bool, true, false}
-use Rattle.index.specs.Built.{firstOf}
+use borrow.Author.Tests.{lt-ltb}
+use Rattle.index.specs.Built.{firstOf, someOf}
 
 first-here : (f : ℕ → Bool) (from n : ℕ) → f from ≡ true → firstOf f from (suc n) ≡ from
 unfolding firstOf
@@ -67,3 +68,20 @@ module _ (f : ℕ → Bool) (t m : ℕ) (inside : t < m) where
 
 pub next-none : (f : ℕ → Bool) (m : ℕ) → firstOf f m (m - m) ≡ 2048
 next-none f m = let e : m - m ≡ 0 = omega arith in rw e (first-none f m)
+
+-- ---- whether one passes
+pub some-none : (f : ℕ → Bool) (m : ℕ) → someOf f m (m - m) ≡ false
+some-none f m = rw (next-none f m) refl
+
+module _ (f : ℕ → Bool) (t m : ℕ) (inside : t < m) where
+  pub some-here : m ≤ 2048 → f t ≡ true → someOf f t (m - t) ≡ true
+  some-here h e = rw (next-here f t m inside e) (lt-ltb t 2048 (omega arith))
+
+  pub some-later : f t ≡ false → someOf f t (m - t) ≡ someOf f (t + 1) (m - (t + 1))
+  some-later e = rw (next-later f t m inside e) refl
+
+pub some-most : (f : ℕ → Bool) (m u : ℕ) → m ≤ 2048 → f u ≡ true → u < m → someOf f 0 (m - 0) ≡ true
+some-most f m u h e l = lt-ltb (firstOf f 0 (m - 0)) 2048 (omega (arith, first-most f 0 (m - 0) u e (omega arith) (omega arith)))
+
+pub some-same : (f g : ℕ → Bool) (from n : ℕ) → ((i : ℕ) → from ≤ i → i < from + n → f i ≡ g i) → someOf f from n ≡ someOf g from n
+some-same f g from n same = rw (first-same f g from n same) refl

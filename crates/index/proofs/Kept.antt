@@ -4,7 +4,6 @@
 use Prim.Native.Nat.{ℕ, _+_, _≤_, _<_}
 use native.Mathlib.Omega.{arith}
 use mathlib.Core.Path.{_≡_, sym, _∙_, subst}
-use mathlib.Core.Bool.{Bool}
 use mathlib.Core.List.{List}
 use lib.ListN.{take, drop, getD, set, length-take, length-drop}
 use lib.Seq.{getD-set-other}
@@ -15,7 +14,7 @@ use Rattle.tiling.proofs.Marked.{lay-shrinks}
 use Rattle.sweep.specs.Workspace.{state, boundsFrom, laid}
 use Rattle.sweep.specs.declared.Job.{Job}
 use Rattle.sweep.proofs.Workspace.{state-set, state-laid}
-use Rattle.index.specs.Indexed.{patternHash, textHash, link, Indexed}
+use Rattle.index.specs.Indexed.{patternHash, textHash, link, Ranges, Indexed, Filtered}
 use Rattle.index.specs.declared.Pass.{Pass}
 
 -- A run begins within both sequences.
@@ -36,21 +35,19 @@ pub record Kept (j : Job) (ws ws' : List ℕ) : Type 0 where
   pub on-text : (t : ℕ) → t < j .m → textHash j ws' t ≡ textHash j ws t
   pub linked : (t : ℕ) → t < j .m → link j ws' t ≡ link j ws t
 
-pub indexed-kept : (x : Pass) (ws ws' heads : List ℕ) (seen : List Bool) → Kept (x .job) ws ws' → Indexed x ws heads seen → Indexed x ws' heads seen
-indexed-kept x ws ws' heads seen c i =
+pub indexed-kept : (x : Pass) (ws ws' heads : List ℕ) → Kept (x .job) ws ws' → Indexed x ws heads → Indexed x ws' heads
+indexed-kept x ws ws' heads c i =
     record {
+      linked = i .linked;
       least = i .least;
       kin = λ p u h. rw (c .on-text u (inside-text p u h), c .on-pattern p (inside-pattern p u h)) (i .kin p u (before p u h));
-      known = λ p u h. rw (c .on-pattern p (inside-pattern p u h)) (i .known p u (before p u h));
       head = λ p u h. rw (c .on-pattern p (inside-pattern p u h)) (i .head p u (before p u h));
       next = λ p u v h l e.
           let w : v < x .job .m = omega (arith, l, inside-text p u h) in
-          rw (c .linked v w) (i .next p u v (before p u h) l (rw (c .on-text v w, c .on-pattern p (inside-pattern p u h)) at e));
-      head-bucket = λ b h l. rw (c .on-text (getD heads b 0) l) (i .head-bucket b h l);
-      link-bucket = λ v h l.
-          let w : link (x .job) ws v < x .job .m = omega (arith, l, c .linked v h) in
-          rw (c .linked v h, c .on-text v h, c .on-text (link (x .job) ws v) w) (i .link-bucket v h w);
-      rising = λ v h. rw (c .linked v h) (i .rising v h);
+          rw (c .linked v w) (i .next p u v (before p u h) l (rw (c .on-pattern p (inside-pattern p u h)) at e));
+      head-linked = i .head-linked;
+      next-linked = λ b v h e l. rw (c .linked v h) (i .next-linked b v h e (omega (arith, l, c .linked v h)));
+      rising = λ b v h e. rw (c .linked v h) (i .rising b v h e);
     }
   where
     before : (p u : ℕ) → x .s ≤ runAt (state (x .job) ws') p u → x .s ≤ runAt (state (x .job) ws) p u
@@ -62,30 +59,35 @@ indexed-kept x ws ws' heads seen c i =
     inside-text : (p u : ℕ) → x .s ≤ runAt (state (x .job) ws') p u → u < x .job .m
     inside-text p u h = column-inside (x .job) ws' p u (omega (arith, h, i .least))
 
+pub filtered-kept : (x : Pass) (ws ws' filter : List ℕ) → Ranges x → Kept (x .job) ws ws' → Filtered x ws filter → Filtered x ws' filter
+filtered-kept x ws ws' filter r c f =
+    record {
+      known = λ p u h.
+          rw (c .on-pattern p (row-inside (x .job) ws' p u (omega (arith, h, r .one)))) (f .known p u (omega (arith, h, c .shrinks p u)));
+    }
+
 -- A new bound.
-pub indexed-set : (x : Pass) (ws heads : List ℕ) (seen : List Bool) (p v : ℕ) → p < x .job .n → Indexed x ws heads seen → Indexed x (set ws (boundsFrom (x .job) + p) v) heads seen
-indexed-set x ws heads seen p v h =
-    indexed-kept x ws (set ws (boundsFrom (x .job) + p) v) heads seen
-    (record {
-      shrinks = λ q u. subst (λ (z : State). runAt z q u ≤ runAt (state (x .job) ws) q u) (sym (state-set (x .job) ws p v)) (omega arith);
-      on-pattern = λ q l. getD-set-other ws (boundsFrom (x .job) + p) (x .job .n + x .job .m + q) v 0 (λ e. omega arith);
-      on-text = λ t l. getD-set-other ws (boundsFrom (x .job) + p) (x .job .n + x .job .m + x .job .n + t) v 0 (λ e. omega arith);
-      linked = λ t l. getD-set-other ws (boundsFrom (x .job) + p) (boundsFrom (x .job) + x .job .n + t) v 0 (λ e. omega arith);
-    })
+pub kept-set : (j : Job) (ws : List ℕ) (p v : ℕ) → p < j .n → Kept j ws (set ws (boundsFrom j + p) v)
+kept-set j ws p v h =
+    record {
+      shrinks = λ q u. subst (λ (z : State). runAt z q u ≤ runAt (state j ws) q u) (sym (state-set j ws p v)) (omega arith);
+      on-pattern = λ q l. getD-set-other ws (boundsFrom j + p) (j .n + j .m + q) v 0 (λ e. omega arith);
+      on-text = λ t l. getD-set-other ws (boundsFrom j + p) (j .n + j .m + j .n + t) v 0 (λ e. omega arith);
+      linked = λ t l. getD-set-other ws (boundsFrom j + p) (boundsFrom j + j .n + t) v 0 (λ e. omega arith);
+    }
 
 -- A tile.
-pub indexed-laid : (x : Pass) (ws heads : List ℕ) (seen : List Bool) (p t len : ℕ) → p + len ≤ x .job .n → t + len ≤ x .job .m → Indexed x ws heads seen → Indexed x (laid (x .job) p t len ws) heads seen
-indexed-laid x ws heads seen p t len h l =
-    indexed-kept x ws (laid (x .job) p t len ws) heads seen
-    (record {
-      shrinks = λ q u. subst (λ (z : State). runAt z q u ≤ runAt (state (x .job) ws) q u) (sym (state-laid (x .job) ws p t len h l)) (lay-shrinks (state (x .job) ws) (record { p = p; t = t; len = len }) q u);
-      on-pattern = λ q b. mark-before (boundsFrom (x .job) + p) len ws₂ (x .job .n + x .job .m + q) (omega arith) ∙ past (x .job .n + x .job .m + q) (omega arith);
-      on-text = λ u b. mark-before (boundsFrom (x .job) + p) len ws₂ (x .job .n + x .job .m + x .job .n + u) (omega arith) ∙ past (x .job .n + x .job .m + x .job .n + u) (omega arith);
-      linked = λ u b. mark-after (boundsFrom (x .job) + p) len ws₂ (boundsFrom (x .job) + x .job .n + u) (omega arith) ∙ past (boundsFrom (x .job) + x .job .n + u) (omega arith);
-    })
+pub kept-laid : (j : Job) (ws : List ℕ) (p t len : ℕ) → p + len ≤ j .n → t + len ≤ j .m → Kept j ws (laid j p t len ws)
+kept-laid j ws p t len h l =
+    record {
+      shrinks = λ q u. subst (λ (z : State). runAt z q u ≤ runAt (state j ws) q u) (sym (state-laid j ws p t len h l)) (lay-shrinks (state j ws) (record { p = p; t = t; len = len }) q u);
+      on-pattern = λ q b. mark-before (boundsFrom j + p) len ws₂ (j .n + j .m + q) (omega arith) ∙ past (j .n + j .m + q) (omega arith);
+      on-text = λ u b. mark-before (boundsFrom j + p) len ws₂ (j .n + j .m + j .n + u) (omega arith) ∙ past (j .n + j .m + j .n + u) (omega arith);
+      linked = λ u b. mark-after (boundsFrom j + p) len ws₂ (boundsFrom j + j .n + u) (omega arith) ∙ past (boundsFrom j + j .n + u) (omega arith);
+    }
   where
     ws₂ : List ℕ
-    ws₂ = mark (x .job .n + t) len (mark p len ws)
+    ws₂ = mark (j .n + t) len (mark p len ws)
 
-    past : (a : ℕ) → x .job .n + x .job .m ≤ a → getD ws₂ a 0 ≡ getD ws a 0
-    past a b = mark-after (x .job .n + t) len (mark p len ws) a (omega arith) ∙ mark-after p len ws a (omega arith)
+    past : (a : ℕ) → j .n + j .m ≤ a → getD ws₂ a 0 ≡ getD ws a 0
+    past a b = mark-after (j .n + t) len (mark p len ws) a (omega arith) ∙ mark-after p len ws a (omega arith)

@@ -1,13 +1,16 @@
--- One position after another, from right to left. The head of a bucket is its first free window from here on; so a link that takes it over
--- is the next one after this, and where the window at t is free it becomes the head.
+-- One position after another, from right to left. The entries of the pattern's windows are set first. Then the head of a bucket is its first
+-- linked window from here on; so a link that takes it over is the next one after this, and where the window at t is free and the pattern has
+-- its entry it becomes the head.
 -- Assumes nothing.
 use Prim.Native.Nat.{ℕ, _+_, _-_, _≤_, _<_}
-use native.Mathlib.Decide.{decLt, ℕ-discrete}
+use native.Mathlib.Decide.{decLt, decLe, ℕ-discrete}
 use native.Mathlib.Omega.{arith}
 use mathlib.Core.Path.{_≡_, refl, sym, _∙_, ap}
-use mathlib.Core.Bool.{Bool, true, false}
+use mathlib.Core.Bool.{Bool, true, false, _&&_}
 use mathlib.Core.List.{List}
 use borrow.Author.Tests.{lt-ltb, le-ltb, le-leb, lt-leb, eq-eqb, ne-eqb}
+use lib.Dec.{leb, ltb, eqb}
+use Rattle.symbol.proofs.Word.{and-right}
 use lib.ListN.{length, getD, set, replicate, getD-replicate, List·getD-eq-default}
 use lib.Seq.{getD-set-same, getD-set-other}
 use Rattle.window.specs.Hash.{bucket}
@@ -15,35 +18,73 @@ use Rattle.sweep.specs.Workspace.{Space, state, boundsFrom}
 use Rattle.sweep.specs.declared.Job.{Job}
 use Rattle.sweep.proofs.Workspace.{state-set, space-kept}
 use Rattle.index.specs.Indexed.{patternHash, textHash, link, slot, Ranges}
-use Rattle.index.specs.Built.{freeAt, inBucket, nextIn, Entered, Linked}
+use Rattle.index.specs.Built.{freeAt, raisedFrom, listed, inBucket, nextIn, linkedFrom, entryOf, Raised, takes, when, Entered, Linked}
 use Rattle.index.specs.declared.Pass.{Pass}
-use Rattle.index.proofs.Bucket.{bucket-below}
-use Rattle.index.proofs.First.{first-least, first-same, next-here, next-later, next-none}
+use Rattle.index.proofs.Bucket.{bucket-below, slot-below}
+use Rattle.index.proofs.First.{first-least, first-same, next-here, next-later, next-none, some-none, some-here, some-later, some-same}
 use Rattle.index.proofs.Free.{free-end, free-inside, free-same}
 
+-- ---- the pattern's windows
+pub record Raising (j : Job) (ws fs : List ℕ) (p : ℕ) : Type 0 where
+  pub within : p ≤ j .n
+  pub entries : (i : ℕ) → i < 4096 → getD fs i 0 ≡ entryOf (raisedFrom j ws i p) false
+
+pub raising-none : (j : Job) (ws fs : List ℕ) → fs ≡ replicate 4096 0 → Raising j ws fs (j .n)
+raising-none j ws fs fresh =
+    record {
+      within = omega arith;
+      entries = λ i l. rw (some-none (λ q. eqb (slot (patternHash j ws q)) i) (j .n), fresh) (getD-replicate {A = ℕ} 4096 i 0 0 l);
+    }
+
+module _ (j : Job) (ws fs : List ℕ) (p : ℕ) (r : Raising j ws fs p) where
+  pub raising-inside : 0 < p → p - 1 < j .n
+  raising-inside h = omega (arith, r .within)
+
+  pub raising-more : 0 < p → Space j ws → (h k : ℕ) (fs' : List ℕ) → h ≡ patternHash j ws (p - 1) → k ≡ slot h → fs' ≡ set fs k 1 → getD fs' k 0 ≡ 1 → Raising j ws fs' (p - 1)
+  raising-more above space h k fs' eh ek ef here = record { within = omega (arith, r .within); entries = λ i l. entries i l (ℕ-discrete i k) }
+    where
+      test : ℕ → ℕ → Bool
+      test i q = eqb (slot (patternHash j ws q)) i
+
+      back : p - 1 + 1 ≡ p
+      back = omega arith
+
+      at : slot (patternHash j ws (p - 1)) ≡ k
+      at = ap slot (sym eh) ∙ sym ek
+
+      entries : (i : ℕ) → i < 4096 → Dec (i ≡ k) → getD fs' i 0 ≡ entryOf (raisedFrom j ws i (p - 1)) false
+      entries i l (yes e) =
+          rw (e, some-here (test k) (p - 1) (j .n) (omega (arith, r .within)) (space .short-pattern) (eq-eqb (slot (patternHash j ws (p - 1))) k at)) here
+      entries i l (no d) =
+          rw (some-later (test i) (p - 1) (j .n) (omega (arith, r .within)) (ne-eqb (slot (patternHash j ws (p - 1))) i (λ z. d (sym z ∙ at))), back, ef)
+          (getD-set-other fs k i 1 0 d ∙ r .entries i l)
+
+  pub raising-all : p ≤ 0 → Raised j ws fs
+  raising-all h = let e : p ≡ 0 = omega arith in record { entries = rw e at (r .entries) }
+
 -- ---- one window, as the code goes through it
-module _ (x : Pass) (t free : ℕ) (ws hs : List ℕ) (fs : List Bool) (h b : ℕ) (eh : h ≡ textHash (x .job) ws t) (eb : b ≡ bucket (x .buckets) h) (ws' : List ℕ) (ew : ws' ≡ set ws (boundsFrom (x .job) + x .job .n + t) (getD hs b 0)) where
-  at-bucket : b ≡ bucket (x .buckets) (textHash (x .job) ws t)
-  at-bucket = eb ∙ ap (bucket (x .buckets)) eh
+pub entered-busy : (x : Pass) (t free : ℕ) (ws hs fs : List ℕ) → free < x .s → Entered x t free ws hs fs ws hs fs
+entered-busy x t free ws hs fs less =
+    let e : leb (x .s) free ≡ false = lt-leb (x .s) free less in
+    record { words = rw e refl; heads = rw e refl; filter = rw e refl; known = λ z. absurd (let k : _≡_ {A = ℕ} 0 1 = (let f : false ≡ true = rw e at z in cc) in omega arith) }
 
-  words : ws' ≡ set ws (boundsFrom (x .job) + x .job .n + t) (getD hs (bucket (x .buckets) (textHash (x .job) ws t)) 0)
-  words = rw (← at-bucket) ew
+module _ (x : Pass) (t free : ℕ) (ws hs fs : List ℕ) (long : x .s ≤ free) (h e : ℕ) (eh : h ≡ textHash (x .job) ws t) (ee : e ≡ getD fs (slot h) 0) where
+  entry : e ≡ getD fs (slot (textHash (x .job) ws t)) 0
+  entry = ee ∙ ap (λ z. getD fs (slot z) 0) eh
 
-  -- A window that is not free is left out.
-  pub entered-not : free < x .s → Entered x t free ws hs fs ws' hs fs
-  entered-not less = record { words = words; heads = rw (lt-ltb free (x .s) less) refl; filter = rw (lt-ltb free (x .s) less) refl; known = λ l. absurd (omega arith) }
+  pub entered-unknown : e ≡ 0 → Entered x t free ws hs fs ws hs fs
+  entered-unknown z =
+      let k : takes x free (getD fs (slot (textHash (x .job) ws t)) 0) ≡ false = rw (← entry, z, le-leb (x .s) free long) refl in
+      record { words = rw k refl; heads = rw k refl; filter = rw k refl; known = λ y. absurd (let o : _≡_ {A = ℕ} 0 1 = (let f : false ≡ true = sym k ∙ y in cc) in omega arith) }
 
-  pub entered-new : x .s ≤ free → (hs' : List ℕ) (fs' : List Bool) → hs' ≡ set hs b t → fs' ≡ set fs (slot h) true → getD fs' (slot h) false ≡ true → Entered x t free ws hs fs ws' hs' fs'
-  entered-new long hs' fs' eh' ef' known =
-      record {
-        words = words;
-        heads = rw (le-ltb free (x .s) long, ← at-bucket) eh';
-        filter = rw (le-ltb free (x .s) long, ← eh) ef';
-        known = λ l. rw (← eh) known;
-      }
+  pub entered-new : (e ≡ 0 → ⊥) → (b : ℕ) → b ≡ bucket (x .buckets) h → (ws' hs' fs' : List ℕ) → ws' ≡ set ws (boundsFrom (x .job) + x .job .n + t) (getD hs b 0) → hs' ≡ set hs b t → fs' ≡ set fs (slot h) 2 → getD fs' (slot h) 0 ≡ 2 → Entered x t free ws hs fs ws' hs' fs'
+  entered-new some b eb ws' hs' fs' ew eh' ef' known =
+      let k : takes x free (getD fs (slot (textHash (x .job) ws t)) 0) ≡ true = rw (← entry, le-leb (x .s) free long) (lt-ltb 0 e (omega (arith, some))) in
+      let c : b ≡ bucket (x .buckets) (textHash (x .job) ws t) = eb ∙ ap (bucket (x .buckets)) eh in
+      record { words = rw (k, ← c) ew; heads = rw (k, ← c) eh'; filter = rw (k, ← eh) ef'; known = λ y. rw (← eh) known }
 
 -- ---- all of them
-pub record Backward (x : Pass) (ws₀ ws hs : List ℕ) (fs : List Bool) (t free : ℕ) : Type 0 where
+pub record Backward (x : Pass) (ws₀ ws hs fs : List ℕ) (t free : ℕ) : Type 0 where
   pub within : t ≤ x .job .m
   pub ranges : Ranges x
   pub space : Space (x .job) ws
@@ -52,12 +93,14 @@ pub record Backward (x : Pass) (ws₀ ws hs : List ℕ) (fs : List Bool) (t free
   pub on-pattern : (p : ℕ) → p < x .job .n → patternHash (x .job) ws p ≡ patternHash (x .job) ws₀ p
   pub on-text : (u : ℕ) → u < x .job .m → textHash (x .job) ws u ≡ textHash (x .job) ws₀ u
   pub heads : (b : ℕ) → b < 1024 → getD hs b 0 ≡ nextIn x ws₀ b t
-  pub links : (u : ℕ) → t ≤ u → u < x .job .m → link (x .job) ws u ≡ nextIn x ws₀ (bucket (x .buckets) (textHash (x .job) ws₀ u)) (u + 1)
-  pub known : (u : ℕ) → t ≤ u → x .s ≤ freeAt (x .job) ws₀ u → getD fs (slot (textHash (x .job) ws₀ u)) false ≡ true
+  pub links : (u : ℕ) → t ≤ u → u < x .job .m → listed x ws₀ u ≡ true → link (x .job) ws u ≡ nextIn x ws₀ (bucket (x .buckets) (textHash (x .job) ws₀ u)) (u + 1)
+  pub before : (u : ℕ) → u < t → link (x .job) ws u ≡ link (x .job) ws₀ u
+  pub others : (u : ℕ) → t ≤ u → u < x .job .m → listed x ws₀ u ≡ false → link (x .job) ws u ≡ link (x .job) ws₀ u
+  pub entries : (i : ℕ) → i < 4096 → getD fs i 0 ≡ entryOf (raisedFrom (x .job) ws₀ i 0) (linkedFrom x ws₀ i t)
   pub count : free ≡ freeAt (x .job) ws t
 
-pub backward-none : (x : Pass) (ws hs : List ℕ) (fs : List Bool) → Space (x .job) ws → Ranges x → hs ≡ replicate 1024 2048 → Backward x ws ws hs fs (x .job .m) 0
-backward-none x ws hs fs space ranges fresh =
+pub backward-none : (x : Pass) (ws hs fs : List ℕ) → Space (x .job) ws → Ranges x → hs ≡ replicate 1024 2048 → Raised (x .job) ws fs → Backward x ws ws hs fs (x .job .m) 0
+backward-none x ws hs fs space ranges fresh raised =
     record {
       within = omega arith;
       ranges = ranges;
@@ -68,51 +111,49 @@ backward-none x ws hs fs space ranges fresh =
       on-text = λ u l. refl;
       heads = λ b l. rw fresh (getD-replicate {A = ℕ} 1024 b 2048 0 l) ∙ sym (next-none (inBucket x ws b) (x .job .m));
       links = λ u a b. absurd (omega arith);
-      known = λ u a f. absurd (omega (arith, free-inside (x .job) ws u (omega (arith, f, ranges .one))));
+      before = λ u l. refl;
+      others = λ u a b. absurd (omega arith);
+      entries = λ i l. rw (some-none (λ u. listed x ws u && eqb (slot (textHash (x .job) ws u)) i) (x .job .m)) (raised .entries i l);
       count = free-end (x .job) ws;
     }
 
+-- An entry is above 0 just where the pattern has a window with it.
+entry-some : (r l : Bool) → ltb 0 (entryOf r l) ≡ r
+entry-some false l = refl
+entry-some true false = refl
+entry-some true true = refl
+
 -- The step to position t, where the windows from the next one on are linked.
-module _ (x : Pass) (ws₀ ws hs : List ℕ) (fs : List Bool) (t after free : ℕ) (i : Backward x ws₀ ws hs fs (t + 1) after) (inside : t < x .job .m) (f : free ≡ freeAt (x .job) ws t) (ws' hs' : List ℕ) (fs' : List Bool) (e : Entered x t free ws hs fs ws' hs' fs') where
+module _ (x : Pass) (ws₀ ws hs fs : List ℕ) (t after free : ℕ) (i : Backward x ws₀ ws hs fs (t + 1) after) (inside : t < x .job .m) (f : free ≡ freeAt (x .job) ws t) (ws' hs' fs' : List ℕ) (e : Entered x t free ws hs fs ws' hs' fs') where
   abbrev j : Job
   j = x .job
 
+  abbrev h : ℕ
+  h = textHash j ws t
+
   abbrev b : ℕ
-  b = bucket (x .buckets) (textHash j ws t)
+  b = bucket (x .buckets) h
 
   abbrev at : ℕ
   at = boundsFrom j + j .n + t
 
+  abbrev entering : ℕ → ℕ → Bool
+  entering k u = listed x ws₀ u && eqb (slot (textHash j ws₀ u)) k
+
+  same-hash : h ≡ textHash j ws₀ t
+  same-hash = i .on-text t inside
+
   same-bucket : b ≡ bucket (x .buckets) (textHash j ws₀ t)
-  same-bucket = ap (bucket (x .buckets)) (i .on-text t inside)
+  same-bucket = ap (bucket (x .buckets)) same-hash
 
   small : b < 1024
-  small = bucket-below (x .buckets) (textHash j ws t) (i .ranges .some-bucket) (i .ranges .few-buckets)
+  small = bucket-below (x .buckets) h (i .ranges .some-bucket) (i .ranges .few-buckets)
 
-  free-here : free ≡ freeAt j ws₀ t
-  free-here = f ∙ free-same j ws₀ ws t (i .same)
-
-  elsewhere : (k : ℕ) → (k ≡ at → ⊥) → getD ws' k 0 ≡ getD ws k 0
-  elsewhere k d = rw (e .words) (getD-set-other ws at k (getD hs b 0) 0 d)
-
-  link-here : link j ws' t ≡ nextIn x ws₀ (bucket (x .buckets) (textHash j ws₀ t)) (t + 1)
-  link-here = rw (e .words) (getD-set-same ws at (getD hs b 0) 0 (omega (arith, i .space .roomy))) ∙ (i .heads b small ∙ ap (λ c. nextIn x ws₀ c (t + 1)) same-bucket)
-
-  links : (u : ℕ) → t ≤ u → u < j .m → Dec (u ≡ t) → link j ws' u ≡ nextIn x ws₀ (bucket (x .buckets) (textHash j ws₀ u)) (u + 1)
-  links u a l (yes k) = rw k link-here
-  links u a l (no k) = elsewhere (boundsFrom j + j .n + u) (λ z. k (omega arith)) ∙ i .links u (omega (arith, k)) l
-
-  -- A window that is not free, and one in another bucket, changes no head of a bucket.
-  not-free : free < x .s → (c : ℕ) → inBucket x ws₀ c t ≡ false
-  not-free less c = rw (lt-leb (x .s) (freeAt j ws₀ t) (omega (arith, free-here))) refl
-
-  other-bucket : x .s ≤ free → (c : ℕ) → (c ≡ b → ⊥) → inBucket x ws₀ c t ≡ false
-  other-bucket long c d =
-      rw (le-leb (x .s) (freeAt j ws₀ t) (omega (arith, free-here)), ne-eqb (bucket (x .buckets) (textHash j ws₀ t)) c (λ z. d (sym z ∙ sym same-bucket))) refl
-
-  this-bucket : x .s ≤ free → inBucket x ws₀ b t ≡ true
-  this-bucket long =
-      rw (le-leb (x .s) (freeAt j ws₀ t) (omega (arith, free-here)), eq-eqb (bucket (x .buckets) (textHash j ws₀ t)) b (sym same-bucket)) refl
+  -- The window is linked just where the definition says so.
+  taken : takes x free (getD fs (slot h) 0) ≡ listed x ws₀ t
+  taken =
+      let a : free ≡ freeAt j ws₀ t = f ∙ free-same j ws₀ ws t (i .same) in
+      rw (i .entries (slot h) (slot-below h), entry-some (raisedFrom j ws₀ (slot h) 0) (linkedFrom x ws₀ (slot h) (t + 1)), a, same-hash) refl
 
   long-heads : b < length hs
   long-heads = go (decLt b (length hs))
@@ -123,54 +164,130 @@ module _ (x : Pass) (ws₀ ws hs : List ℕ) (fs : List Bool) (t after free : �
           let none : getD hs b 0 ≡ 0 = List·getD-eq-default hs 0 {n = b} (omega (arith, z)) in
           absurd (omega (arith, none, i .heads b small, first-least (inBucket x ws₀ b) (t + 1) (j .m - (t + 1)) (omega (arith, i .space .short-text))))
 
-  heads : Dec (free < x .s) → (c : ℕ) → c < 1024 → Dec (c ≡ b) → getD hs' c 0 ≡ nextIn x ws₀ c t
-  heads (yes less) c l d =
-      rw (e .heads, lt-ltb free (x .s) less) (i .heads c l ∙ sym (next-later (inBucket x ws₀ c) t (j .m) inside (not-free less c)))
-  heads (no long) c l (yes d) =
-      let k : x .s ≤ free = omega (arith, long) in
-      rw (e .heads, le-ltb free (x .s) k, d) (getD-set-same hs b t 0 long-heads ∙ sym (next-here (inBucket x ws₀ b) t (j .m) inside (this-bucket k)))
-  heads (no long) c l (no d) =
-      let k : x .s ≤ free = omega (arith, long) in
-      rw (e .heads, le-ltb free (x .s) k)
-      (getD-set-other hs b c t 0 d ∙ (i .heads c l ∙ sym (next-later (inBucket x ws₀ c) t (j .m) inside (other-bucket k c d))))
+  -- ---- a window that is not linked changes nothing
+  module _ (no-link : listed x ws₀ t ≡ false) where
+    not-taken : takes x free (getD fs (slot h) 0) ≡ false
+    not-taken = taken ∙ no-link
 
-  still-known : (k : ℕ) → Dec (free < x .s) → getD fs k false ≡ true → getD fs' k false ≡ true
-  still-known k (yes less) z = rw (e .filter, lt-ltb free (x .s) less) z
-  still-known k (no long) z = go (ℕ-discrete k (slot (textHash j ws t)))
+    not-in : (c : ℕ) → inBucket x ws₀ c t ≡ false
+    not-in c = rw no-link refl
+
+    not-entering : (k : ℕ) → entering k t ≡ false
+    not-entering k = rw no-link refl
+
+    still-others : (u : ℕ) → t ≤ u → u < j .m → Dec (u ≡ t) → listed x ws₀ u ≡ false → link j ws u ≡ link j ws₀ u
+    still-others u a l (yes k) z = i .before u (omega (arith, k))
+    still-others u a l (no k) z = i .others u (omega (arith, k)) l z
+
+    still-links : (u : ℕ) → t ≤ u → u < j .m → Dec (u ≡ t) → listed x ws₀ u ≡ true → link j ws u ≡ nextIn x ws₀ (bucket (x .buckets) (textHash j ws₀ u)) (u + 1)
+    still-links u a l (yes k) z = absurd (let o : _≡_ {A = ℕ} 0 1 = (let g : false ≡ true = sym no-link ∙ (ap (listed x ws₀) (sym k) ∙ z) in cc) in omega arith)
+    still-links u a l (no k) z = i .links u (omega (arith, k)) l z
+
+    skipped : Backward x ws₀ ws hs fs t free
+    skipped =
+        record {
+          within = omega arith;
+          ranges = i .ranges;
+          space = i .space;
+          room = i .room;
+          same = i .same;
+          on-pattern = i .on-pattern;
+          on-text = i .on-text;
+          heads = λ c l. i .heads c l ∙ sym (next-later (inBucket x ws₀ c) t (j .m) inside (not-in c));
+          links = λ u a l. still-links u a l (ℕ-discrete u t);
+          before = λ u l. i .before u (omega arith);
+          others = λ u a l. still-others u a l (ℕ-discrete u t);
+          entries = λ k l. rw (some-later (entering k) t (j .m) inside (not-entering k)) (i .entries k l);
+          count = f;
+        }
+
+    pub step-skipped : Backward x ws₀ ws' hs' fs' t free
+    step-skipped = rw (e .words, e .heads, e .filter, not-taken) skipped
+
+  -- ---- one that is linked becomes the head of its bucket
+  module _ (linked : listed x ws₀ t ≡ true) where
+    is-taken : takes x free (getD fs (slot h) 0) ≡ true
+    is-taken = taken ∙ linked
+
+    words : ws' ≡ set ws at (getD hs b 0)
+    words = e .words ∙ rw is-taken refl
+
+    new-heads : hs' ≡ set hs b t
+    new-heads = e .heads ∙ rw is-taken refl
+
+    filter : fs' ≡ set fs (slot h) 2
+    filter = e .filter ∙ rw is-taken refl
+
+    elsewhere : (k : ℕ) → (k ≡ at → ⊥) → getD ws' k 0 ≡ getD ws k 0
+    elsewhere k d = rw words (getD-set-other ws at k (getD hs b 0) 0 d)
+
+    link-here : link j ws' t ≡ nextIn x ws₀ (bucket (x .buckets) (textHash j ws₀ t)) (t + 1)
+    link-here = rw words (getD-set-same ws at (getD hs b 0) 0 (omega (arith, i .space .roomy))) ∙ (i .heads b small ∙ ap (λ c. nextIn x ws₀ c (t + 1)) same-bucket)
+
+    links : (u : ℕ) → t ≤ u → u < j .m → Dec (u ≡ t) → listed x ws₀ u ≡ true → link j ws' u ≡ nextIn x ws₀ (bucket (x .buckets) (textHash j ws₀ u)) (u + 1)
+    links u a l (yes k) z = rw k link-here
+    links u a l (no k) z = elsewhere (boundsFrom j + j .n + u) (λ y. k (omega arith)) ∙ i .links u (omega (arith, k)) l z
+
+    others : (u : ℕ) → t ≤ u → u < j .m → Dec (u ≡ t) → listed x ws₀ u ≡ false → link j ws' u ≡ link j ws₀ u
+    others u a l (yes k) z = absurd (let o : _≡_ {A = ℕ} 0 1 = (let g : false ≡ true = sym z ∙ (ap (listed x ws₀) k ∙ linked) in cc) in omega arith)
+    others u a l (no k) z = elsewhere (boundsFrom j + j .n + u) (λ y. k (omega arith)) ∙ i .others u (omega (arith, k)) l z
+
+    this-bucket : inBucket x ws₀ b t ≡ true
+    this-bucket = rw (linked, eq-eqb (bucket (x .buckets) (textHash j ws₀ t)) b (sym same-bucket)) refl
+
+    other-bucket : (c : ℕ) → (c ≡ b → ⊥) → inBucket x ws₀ c t ≡ false
+    other-bucket c d = rw (linked, ne-eqb (bucket (x .buckets) (textHash j ws₀ t)) c (λ z. d (sym z ∙ sym same-bucket))) refl
+
+    heads : (c : ℕ) → c < 1024 → Dec (c ≡ b) → getD hs' c 0 ≡ nextIn x ws₀ c t
+    heads c l (yes d) = rw (new-heads, d) (getD-set-same hs b t 0 long-heads ∙ sym (next-here (inBucket x ws₀ b) t (j .m) inside this-bucket))
+    heads c l (no d) =
+        rw new-heads (getD-set-other hs b c t 0 d ∙ (i .heads c l ∙ sym (next-later (inBucket x ws₀ c) t (j .m) inside (other-bucket c d))))
+
+    -- The pattern has a window with its entry.
+    raised : raisedFrom j ws₀ (slot h) 0 ≡ true
+    raised = rw same-hash (and-right (leb (x .s) (freeAt j ws₀ t)) (raisedFrom j ws₀ (slot (textHash j ws₀ t)) 0) linked)
+
+    this-entry : entering (slot h) t ≡ true
+    this-entry = rw (linked, eq-eqb (slot (textHash j ws₀ t)) (slot h) (ap slot (sym same-hash))) refl
+
+    other-entry : (k : ℕ) → (k ≡ slot h → ⊥) → entering k t ≡ false
+    other-entry k d = rw (linked, ne-eqb (slot (textHash j ws₀ t)) k (λ z. d (sym z ∙ ap slot (sym same-hash)))) refl
+
+    entries : (k : ℕ) → k < 4096 → Dec (k ≡ slot h) → getD fs' k 0 ≡ entryOf (raisedFrom j ws₀ k 0) (linkedFrom x ws₀ k t)
+    entries k l (yes d) = rw (d, raised, some-here (entering (slot h)) t (j .m) inside (i .space .short-text) this-entry) (e .known is-taken)
+    entries k l (no d) = rw (filter, some-later (entering k) t (j .m) inside (other-entry k d)) (getD-set-other fs (slot h) k 2 0 d ∙ i .entries k l)
+
+    state-linked : state j ws' ≡ state j ws
+    state-linked =
+        let k : at ≡ boundsFrom j + (j .n + t) = omega arith in
+        rw (words, k) (state-set j ws (j .n + t) (getD hs b 0))
+
+    pub step-linked : length ws' ≡ length ws → Backward x ws₀ ws' hs' fs' t free
+    step-linked same =
+        record {
+          within = omega arith;
+          ranges = i .ranges;
+          space = space-kept j ws ws' same state-linked (i .space);
+          room = same ∙ i .room;
+          same = state-linked ∙ i .same;
+          on-pattern = λ p l. elsewhere (j .n + j .m + p) (λ z. omega arith) ∙ i .on-pattern p l;
+          on-text = λ u l. elsewhere (j .n + j .m + j .n + u) (λ z. omega arith) ∙ i .on-text u l;
+          heads = λ c l. heads c l (ℕ-discrete c b);
+          links = λ u a l. links u a l (ℕ-discrete u t);
+          before = λ u l. elsewhere (boundsFrom j + j .n + u) (λ y. omega arith) ∙ i .before u (omega arith);
+          others = λ u a l. others u a l (ℕ-discrete u t);
+          entries = λ k l. entries k l (ℕ-discrete k (slot h));
+          count = f ∙ sym (free-same j ws ws' t state-linked);
+        }
+
+  pub stepped : length ws' ≡ length ws → Backward x ws₀ ws' hs' fs' t free
+  stepped same = go (listed x ws₀ t) refl
     where
-      l : x .s ≤ free
-      l = omega (arith, long)
+      go : (c : Bool) → listed x ws₀ t ≡ c → Backward x ws₀ ws' hs' fs' t free
+      go true z = step-linked z same
+      go false z = step-skipped z
 
-      go : Dec (k ≡ slot (textHash j ws t)) → getD fs' k false ≡ true
-      go (yes d) = rw d (e .known l)
-      go (no d) = rw (e .filter, le-ltb free (x .s) l) (getD-set-other fs (slot (textHash j ws t)) k true false d ∙ z)
-
-  known : (u : ℕ) → t ≤ u → x .s ≤ freeAt j ws₀ u → Dec (u ≡ t) → getD fs' (slot (textHash j ws₀ u)) false ≡ true
-  known u a l (yes k) = rw (k, ← i .on-text t inside) (e .known (omega (arith, free-here, rw k at l)))
-  known u a l (no k) = still-known (slot (textHash j ws₀ u)) (decLt free (x .s)) (i .known u (omega (arith, k)) l)
-
-  state-linked : state j ws' ≡ state j ws
-  state-linked =
-      let k : at ≡ boundsFrom j + (j .n + t) = omega arith in
-      rw (e .words, k) (state-set j ws (j .n + t) (getD hs b 0))
-
-  stepped : length ws' ≡ length ws → Backward x ws₀ ws' hs' fs' t free
-  stepped same =
-      record {
-        within = omega arith;
-        ranges = i .ranges;
-        space = space-kept j ws ws' same state-linked (i .space);
-        room = same ∙ i .room;
-        same = state-linked ∙ i .same;
-        on-pattern = λ p l. elsewhere (j .n + j .m + p) (λ z. omega arith) ∙ i .on-pattern p l;
-        on-text = λ u l. elsewhere (j .n + j .m + j .n + u) (λ z. omega arith) ∙ i .on-text u l;
-        heads = λ c l. heads (decLt free (x .s)) c l (ℕ-discrete c b);
-        links = λ u a l. links u a l (ℕ-discrete u t);
-        known = λ u a l. known u a l (ℕ-discrete u t);
-        count = f ∙ sym (free-same j ws ws' t state-linked);
-      }
-
-module _ (x : Pass) (ws₀ ws hs : List ℕ) (fs : List Bool) (t free : ℕ) (i : Backward x ws₀ ws hs fs t free) where
+module _ (x : Pass) (ws₀ ws hs fs : List ℕ) (t free : ℕ) (i : Backward x ws₀ ws hs fs t free) where
   module _ (some : 0 < t) where
     back : t - 1 + 1 ≡ t
     back = omega arith
@@ -181,16 +298,29 @@ module _ (x : Pass) (ws₀ ws hs : List ℕ) (fs : List Bool) (t free : ℕ) (i 
     pub backward-free : free ≡ freeAt (x .job) ws (t - 1 + 1)
     backward-free = rw back (i .count)
 
-    pub backward-more : (r : ℕ) → r ≡ freeAt (x .job) ws (t - 1) → (ws' hs' : List ℕ) (fs' : List Bool) → Entered x (t - 1) r ws hs fs ws' hs' fs' → length ws' ≡ length ws → Backward x ws₀ ws' hs' fs' (t - 1) r
+    pub backward-more : (r : ℕ) → r ≡ freeAt (x .job) ws (t - 1) → (ws' hs' fs' : List ℕ) → Entered x (t - 1) r ws hs fs ws' hs' fs' → length ws' ≡ length ws → Backward x ws₀ ws' hs' fs' (t - 1) r
     backward-more r f ws' hs' fs' e same =
         let now : Backward x ws₀ ws hs fs (t - 1 + 1) free = rw back i in
         stepped x ws₀ ws hs fs (t - 1) free r now backward-inside f ws' hs' fs' e same
 
-  -- The first free windows are told by the words and hashes, which are as they were.
+  -- What is linked is told by the words and hashes, which are as they were.
+  same-raised : (k : ℕ) → raisedFrom (x .job) ws₀ k 0 ≡ raisedFrom (x .job) ws k 0
+  same-raised k =
+      some-same (λ q. eqb (slot (patternHash (x .job) ws₀ q)) k) (λ q. eqb (slot (patternHash (x .job) ws q)) k) 0 (x .job .n - 0)
+      (λ q a l. rw (i .on-pattern q (omega arith)) refl)
+
+  same-listed : (u : ℕ) → u < x .job .m → listed x ws₀ u ≡ listed x ws u
+  same-listed u l = rw (free-same (x .job) ws₀ ws u (i .same), i .on-text u l, same-raised (slot (textHash (x .job) ws₀ u))) refl
+
   same-next : (b u : ℕ) → nextIn x ws₀ b u ≡ nextIn x ws b u
   same-next b u =
       first-same (inBucket x ws₀ b) (inBucket x ws b) u (x .job .m - u)
-      (λ k a l. rw (free-same (x .job) ws₀ ws k (i .same), i .on-text k (omega arith)) refl)
+      (λ k a l. let z : k < x .job .m = omega arith in rw (same-listed k z, i .on-text k z) refl)
+
+  same-linked : (k : ℕ) → linkedFrom x ws₀ k 0 ≡ linkedFrom x ws k 0
+  same-linked k =
+      some-same (λ u. listed x ws₀ u && eqb (slot (textHash (x .job) ws₀ u)) k) (λ u. listed x ws u && eqb (slot (textHash (x .job) ws u)) k) 0 (x .job .m - 0)
+      (λ u a l. let z : u < x .job .m = omega arith in rw (same-listed u z, i .on-text u z) refl)
 
   pub backward-all : t ≤ 0 → Linked x ws₀ ws hs fs
   backward-all none =
@@ -201,7 +331,7 @@ module _ (x : Pass) (ws₀ ws hs : List ℕ) (fs : List Bool) (t free : ℕ) (i 
         on-pattern = i .on-pattern;
         on-text = i .on-text;
         heads = λ b l. i .heads b l ∙ (ap (nextIn x ws₀ b) z ∙ same-next b 0);
-        links = λ u l. rw (i .on-text u l) (i .links u (omega arith) l ∙ same-next (bucket (x .buckets) (textHash (x .job) ws₀ u)) (u + 1));
-        known = λ u f. let l = free-inside (x .job) ws u (omega (arith, f, i .ranges .one)) in
-            rw (i .on-text u l) (i .known u (omega arith) (omega (arith, f, free-same (x .job) ws₀ ws u (i .same))));
+        links = λ u l y. rw (i .on-text u l) (i .links u (omega arith) l (same-listed u l ∙ y) ∙ same-next (bucket (x .buckets) (textHash (x .job) ws₀ u)) (u + 1));
+        others = λ u l y. i .others u (omega arith) l (same-listed u l ∙ y);
+        entries = λ k l. i .entries k l ∙ (ap (λ v. entryOf (raisedFrom (x .job) ws₀ k 0) (linkedFrom x ws₀ k v)) z ∙ rw (same-raised k, same-linked k) refl);
       }

@@ -5,13 +5,13 @@
 use Prim.Native.Nat.{ℕ, _+_, _-_, _≤_, _<_}
 use native.Mathlib.Omega.{arith}
 use mathlib.Core.Path.{_≡_, refl, sym, _∙_, ap}
-use mathlib.Core.Bool.{Bool, true, false}
+use mathlib.Core.Bool.{Bool, true, false, _&&_}
 use mathlib.Core.List.{List, _++_}
 use borrow.Author.Tests.{le-leb, eq-eqb, eqb-true}
 use lib.Dec.{leb, eqb}
 use lib.ListN.{length, take, drop, getD, length-drop, length-append, List·getD-append}
 use lib.Seq.{length-take-le, take-take, take-add, drop-at, take-at, getD-append-add, take-append-le, drop-append-le, drop-append-add}
-use Rattle.symbol.proofs.Word.{and-both, and-right}
+use Rattle.symbol.proofs.Word.{and-both, and-left, and-right}
 use Rattle.buffer.specs.Buffer.{onto}
 use Rattle.buffer.proofs.Buffer.{length-onto}
 use Rattle.tiling.specs.Tiling.{State, runAt}
@@ -22,13 +22,13 @@ use Rattle.window.proofs.HashList.{length-hashes, getD-hashes, hash-current}
 use Rattle.sweep.specs.Workspace.{Space, state}
 use Rattle.sweep.specs.declared.Job.{Job}
 use Rattle.sweep.proofs.Workspace.{space-kept, pattern-length, text-length}
-use Rattle.index.specs.Indexed.{patternHash, textHash, link, slot, Ranges, Indexed}
-use Rattle.index.specs.Built.{freeAt, inBucket, nextIn, Linked, Built}
+use Rattle.index.specs.Indexed.{patternHash, textHash, link, slot, Ranges, Indexed, Filtered}
+use Rattle.index.specs.Built.{freeAt, raisedFrom, listed, inBucket, nextIn, linkedFrom, entryOf, Linked, Built}
 use Rattle.index.specs.declared.Pass.{Pass}
-use Rattle.index.proofs.Bucket.{bucket-below}
-use Rattle.index.proofs.First.{first-least, first-most, first-passes}
+use Rattle.index.proofs.Bucket.{bucket-below, slot-below}
+use Rattle.index.proofs.First.{first-least, first-most, first-passes, some-most}
 use Rattle.index.proofs.Free.{free-run}
-use Rattle.index.proofs.Kept.{column-inside}
+use Rattle.index.proofs.Kept.{row-inside, column-inside}
 
 -- A part of a front part.
 take-front : (a b : ℕ) (xs ys : List ℕ) → take (a + b) xs ≡ take (a + b) ys → take a xs ≡ take a ys
@@ -38,16 +38,16 @@ drop-front : (a b : ℕ) (xs : List ℕ) → a ≤ length xs → drop a (take (a
 drop-front a b xs h = rw (take-add a b xs) (drop-at (take a xs) (take b (drop a xs)) a (length-take-le a xs h))
 
 -- ---- what the search may go by
-module _ (x : Pass) (ws hs : List ℕ) (fs : List Bool) (ranges : Ranges x) (space : Space (x .job) ws) (on-pattern : (p : ℕ) → p + x .s ≤ x .job .n → patternHash (x .job) ws p ≡ hashAt (x .multiplier) (x .s) (state (x .job) ws .pattern) p) (on-text : (t : ℕ) → t + x .s ≤ x .job .m → textHash (x .job) ws t ≡ hashAt (x .multiplier) (x .s) (state (x .job) ws .text) t) (heads : (b : ℕ) → b < 1024 → getD hs b 0 ≡ nextIn x ws b 0) (links : (t : ℕ) → t < x .job .m → link (x .job) ws t ≡ nextIn x ws (bucket (x .buckets) (textHash (x .job) ws t)) (t + 1)) (known : (t : ℕ) → x .s ≤ freeAt (x .job) ws t → getD fs (slot (textHash (x .job) ws t)) false ≡ true) where
-  abbrev bucketAt : ℕ → ℕ
-  bucketAt t = bucket (x .buckets) (textHash (x .job) ws t)
-
+module _ (x : Pass) (ws hs fs : List ℕ) (ranges : Ranges x) (space : Space (x .job) ws) (on-pattern : (p : ℕ) → p + x .s ≤ x .job .n → patternHash (x .job) ws p ≡ hashAt (x .multiplier) (x .s) (state (x .job) ws .pattern) p) (on-text : (t : ℕ) → t + x .s ≤ x .job .m → textHash (x .job) ws t ≡ hashAt (x .multiplier) (x .s) (state (x .job) ws .text) t) (heads : (b : ℕ) → b < 1024 → getD hs b 0 ≡ nextIn x ws b 0) (links : (t : ℕ) → t < x .job .m → listed x ws t ≡ true → link (x .job) ws t ≡ nextIn x ws (bucket (x .buckets) (textHash (x .job) ws t)) (t + 1)) (entries : (i : ℕ) → i < 4096 → getD fs i 0 ≡ entryOf (raisedFrom (x .job) ws i 0) (linkedFrom x ws i 0)) where
   -- A number past the text is none of its positions.
-  passes : (b t : ℕ) → nextIn x ws b t < x .job .m → bucketAt (nextIn x ws b t) ≡ b
-  passes b t l =
-      let r = nextIn x ws b t in
-      let e : inBucket x ws b r ≡ true = first-passes (inBucket x ws b) t (x .job .m - t) (omega (arith, space .short-text)) in
-      eqb-true (bucketAt r) b (and-right (leb (x .s) (freeAt (x .job) ws r)) (eqb (bucketAt r) b) e)
+  passes : (b t : ℕ) → nextIn x ws b t < x .job .m → inBucket x ws b (nextIn x ws b t) ≡ true
+  passes b t l = first-passes (inBucket x ws b) t (x .job .m - t) (omega (arith, space .short-text))
+
+  -- The link of a window that is linked in a bucket is the next one there.
+  link-in : (b v : ℕ) → v < x .job .m → inBucket x ws b v ≡ true → link (x .job) ws v ≡ nextIn x ws b (v + 1)
+  link-in b v l e =
+      let c : bucket (x .buckets) (textHash (x .job) ws v) ≡ b = eqb-true _ _ (and-right (listed x ws v) (eqb (bucket (x .buckets) (textHash (x .job) ws v)) b) e) in
+      links v l (and-left (listed x ws v) (eqb (bucket (x .buckets) (textHash (x .job) ws v)) b) e) ∙ ap (λ k. nextIn x ws k (v + 1)) c
 
   module _ (p u : ℕ) (h : x .s ≤ runAt (state (x .job) ws) p u) where
     same-hash : textHash (x .job) ws u ≡ patternHash (x .job) ws p
@@ -64,28 +64,50 @@ module _ (x : Pass) (ws hs : List ℕ) (fs : List Bool) (ranges : Ranges x) (spa
     free : x .s ≤ freeAt (x .job) ws u
     free = omega (arith, h, free-run (x .job) ws p u)
 
-    -- Its window is free and in the bucket of the pattern's.
-    found : (b : ℕ) → b ≡ bucket (x .buckets) (patternHash (x .job) ws p) → inBucket x ws b u ≡ true
-    found b e =
-        and-both (le-leb (x .s) (freeAt (x .job) ws u) free)
-        (eq-eqb (bucketAt u) b (ap (bucket (x .buckets)) same-hash ∙ sym e))
+    in-row : p < x .job .n
+    in-row = row-inside (x .job) ws p u (omega (arith, h, ranges .one))
 
-    not-past : (b t : ℕ) → b ≡ bucket (x .buckets) (patternHash (x .job) ws p) → t ≤ u → nextIn x ws b t ≤ u
-    not-past b t e l = first-most (inBucket x ws b) t (x .job .m - t) u (found b e) l (omega (arith, inside))
+    -- The pattern has a window with its entry, so its window is linked.
+    raised : raisedFrom (x .job) ws (slot (patternHash (x .job) ws p)) 0 ≡ true
+    raised = some-most (λ q. eqb (slot (patternHash (x .job) ws q)) (slot (patternHash (x .job) ws p))) (x .job .n) p (space .short-pattern) (eq-eqb (slot (patternHash (x .job) ws p)) (slot (patternHash (x .job) ws p)) refl) in-row
 
-  pub indexed : Indexed x ws hs fs
+    is-listed : listed x ws u ≡ true
+    is-listed = and-both (le-leb (x .s) (freeAt (x .job) ws u) free) (rw same-hash raised)
+
+    found : inBucket x ws (bucket (x .buckets) (patternHash (x .job) ws p)) u ≡ true
+    found =
+        and-both is-listed
+        (eq-eqb (bucket (x .buckets) (textHash (x .job) ws u)) (bucket (x .buckets) (patternHash (x .job) ws p)) (ap (bucket (x .buckets)) same-hash))
+
+    not-past : (t : ℕ) → t ≤ u → nextIn x ws (bucket (x .buckets) (patternHash (x .job) ws p)) t ≤ u
+    not-past t l = first-most (inBucket x ws (bucket (x .buckets) (patternHash (x .job) ws p))) t (x .job .m - t) u found l (omega (arith, inside))
+
+    in-both : linkedFrom x ws (slot (patternHash (x .job) ws p)) 0 ≡ true
+    in-both =
+        some-most (λ v. listed x ws v && eqb (slot (textHash (x .job) ws v)) (slot (patternHash (x .job) ws p))) (x .job .m) u (space .short-text)
+        (and-both is-listed (eq-eqb (slot (textHash (x .job) ws u)) (slot (patternHash (x .job) ws p)) (ap slot same-hash)))
+        inside
+
+    entered : getD fs (slot (patternHash (x .job) ws p)) 0 ≡ 2
+    entered = rw (entries (slot (patternHash (x .job) ws p)) (slot-below (patternHash (x .job) ws p)), raised, in-both) refl
+
+  pub filtered : Filtered x ws fs
+  filtered = record { known = entered }
+
+  pub indexed : Indexed x ws hs
   indexed =
       record {
+        linked = inBucket x ws;
         least = ranges .one;
         kin = same-hash;
-        known = λ p u h. rw (← same-hash p u h) (known u (free p u h));
         head = λ p u h.
             let b = bucket (x .buckets) (patternHash (x .job) ws p) in
-            omega (arith, heads b (bucket-below (x .buckets) (patternHash (x .job) ws p) (ranges .some-bucket) (ranges .few-buckets)), not-past p u h b 0 refl (omega arith));
-        next = λ p u v h l e. omega (arith, links v (omega (arith, inside p u h)), not-past p u h (bucketAt v) (v + 1) e (omega arith));
-        head-bucket = λ b l k. rw (heads b l) (passes b 0 (omega (arith, heads b l)));
-        link-bucket = λ v l k. rw (links v l) (passes (bucketAt v) (v + 1) (omega (arith, links v l)));
-        rising = λ v l. omega (arith, links v l, first-least (inBucket x ws (bucketAt v)) (v + 1) (x .job .m - (v + 1)) (omega (arith, space .short-text)));
+            omega (arith, heads b (bucket-below (x .buckets) (patternHash (x .job) ws p) (ranges .some-bucket) (ranges .few-buckets)), not-past p u h 0 (omega arith));
+        next = λ p u v h l e.
+            omega (arith, link-in (bucket (x .buckets) (patternHash (x .job) ws p)) v (omega (arith, inside p u h)) e, not-past p u h (v + 1) (omega arith));
+        head-linked = λ b l k. rw (heads b l) (passes b 0 (omega (arith, heads b l)));
+        next-linked = λ b v l e k. rw (link-in b v l e) (passes b (v + 1) (omega (arith, link-in b v l e)));
+        rising = λ b v l e. omega (arith, link-in b v l e, first-least (inBucket x ws b) (v + 1) (x .job .m - (v + 1)) (omega (arith, space .short-text)));
       }
 
 -- ---- the hashes
@@ -167,7 +189,7 @@ module _ (x : Pass) (ws ws' : List ℕ) (space : Space (x .job) ws) (ranges : Ra
       ap (λ i. getD ws' i 0) at ∙ (stored (j .n + t) (omega arith) ∙ (ap (wordsHash B) (text-window t) ∙ hash-current B s (state j ws .text) (space .current .on-text) t))
 
   -- The windows were linked from there.
-  pub built-all : (ws₂ hs : List ℕ) (fs : List Bool) → Linked x ws' ws₂ hs fs → Built x ws ws₂ hs fs
+  pub built-all : (ws₂ hs fs : List ℕ) → Linked x ws' ws₂ hs fs → Built x ws ws₂ hs fs
   built-all ws₂ hs fs l =
       record {
         space = l .space;
@@ -176,13 +198,9 @@ module _ (x : Pass) (ws ws' : List ℕ) (space : Space (x .job) ws) (ranges : Ra
         on-text = text;
         heads = l .heads;
         links = l .links;
-        indexed =
-            indexed x ws₂ hs fs ranges (l .space)
-            (λ p fits. pattern p fits ∙ ap (λ (u : State). hashAt B s (u .pattern) p) (sym same))
-            (λ t fits. text t fits ∙ ap (λ (u : State). hashAt B s (u .text) t) (sym same))
-            (l .heads)
-            (l .links)
-            (l .known);
+        entries = l .entries;
+        indexed = indexed x ws₂ hs fs ranges (l .space) pattern' text' (l .heads) (l .links) (l .entries);
+        filtered = filtered x ws₂ hs fs ranges (l .space) pattern' text' (l .heads) (l .links) (l .entries);
       }
     where
       same : state j ws₂ ≡ state j ws
@@ -193,3 +211,9 @@ module _ (x : Pass) (ws ws' : List ℕ) (space : Space (x .job) ws) (ranges : Ra
 
       text : (t : ℕ) → t + s ≤ j .m → textHash j ws₂ t ≡ hashAt B s (state j ws .text) t
       text t fits = l .on-text t (omega (arith, ranges .one)) ∙ on-text t fits
+
+      pattern' : (p : ℕ) → p + s ≤ j .n → patternHash j ws₂ p ≡ hashAt B s (state j ws₂ .pattern) p
+      pattern' p fits = pattern p fits ∙ ap (λ (u : State). hashAt B s (u .pattern) p) (sym same)
+
+      text' : (t : ℕ) → t + s ≤ j .m → textHash j ws₂ t ≡ hashAt B s (state j ws₂ .text) t
+      text' t fits = text t fits ∙ ap (λ (u : State). hashAt B s (u .text) t) (sym same)

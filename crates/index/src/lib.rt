@@ -1,16 +1,15 @@
 // The index of a pass: the hash of each window, and for each bucket the positions of the text whose windows fall into it, in
-// rising order.
+// rising order. Only windows of the text are linked whose hash the pattern may have.
 use sweep::Job;
 use tile::PatternAt;
 use tile::TextAt;
 ghost use mathlib.Core.Path.{_≡_};
-ghost use mathlib.Core.Bool.{true, false};
 ghost use Prim.Native.Nat.{_+_, _≤_, _<_};
 ghost use lib.ListN.{length, getD, set, replicate};
 ghost use Rattle.window.specs.Hash.{bucket};
 ghost use Rattle.sweep.specs.Workspace.{Space, boundsFrom};
 ghost use Rattle.index.specs.Indexed.{patternHash, textHash, link, slot, Ranges};
-ghost use Rattle.index.specs.Built.{freeAt, Entered, Linked, Built};
+ghost use Rattle.index.specs.Built.{freeAt, Raised, Entered, Linked, Built};
 
 // A pass of the search: the comparison, the search length s, and how windows are hashed.
 pub struct Pass {
@@ -30,9 +29,9 @@ pub fn bucket_of(h: u32, buckets: u32) -> usize
 
 // The entry of the filter that a hash has.
 fn slot_of(h: u32) -> usize
-    ensures { λ r. ⌜ (r ≡ slot h) × (r < 16384) ⌝ }
+    ensures { λ r. ⌜ (r ≡ slot h) × (r < 4096) ⌝ }
 {
-    ((h as u64) * 2654435769 % 0x1_0000_0000 / 0x4_0000) as usize
+    ((h as u64) * 2654435769 % 0x1_0000_0000 / 0x10_0000) as usize
 }
 
 // The hash of the pattern's window at a position.
@@ -77,11 +76,33 @@ pub fn first_text(heads: &[u32; 1024], bucket: usize) -> TextAt
     TextAt(wide(heads[bucket]))
 }
 
-// Whether the filter knows a hash.
-pub fn knows(seen: &[bool; 16384], h: u32) -> bool
-    ensures { λ r. ⌜ r ≡ getD (now (seen .entry)) (slot h) false ⌝ }
+// The entry of the filter for a hash: 0 where the pattern has no window with that entry, 1 where it has one, and 2 where a
+// window of the text is linked that has it too.
+pub fn entry_of(filter: &[u8; 4096], h: u32) -> u8
+    ensures { λ r. ⌜ r ≡ getD (now (filter .entry)) (slot h) 0 ⌝ }
 {
-    seen[slot_of(h)]
+    filter[slot_of(h)]
+}
+
+// Sets an entry.
+fn put(filter: &mut [u8], at: usize, value: u8)
+    requires { ⌜ at < length (now filter) ⌝ }
+    ensures { λ r. ⌜ (now (filter .exit) ≡ set (now (filter .entry)) at value) × (getD (now (filter .exit)) at 0 ≡ value) ⌝ }
+{
+    filter[at] = value;
+}
+
+// Sets the entry of each window of the pattern, from right to left.
+fn raise_rows(ws: &[u32], job: Job, filter: &mut [u8; 4096])
+    requires { ⌜ Space job (now ws) × (now filter ≡ replicate 4096 0) ⌝ }
+    ensures { λ r. ⌜ Raised job (now (ws .entry)) (now (filter .exit)) ⌝ }
+{
+    let mut p = job.n;
+    while 0 < p {
+        p -= 1;
+        let h = pattern_hash(ws, job, PatternAt(p));
+        put(filter, slot_of(h), 1);
+    }
 }
 
 // How many calls stand in the text from t on without a gap, where after that many stand from the next position on.
@@ -105,66 +126,63 @@ fn set_link(ws: &mut [u32], job: Job, t: TextAt, value: u32)
     ws[at] = value;
 }
 
-// Sets a flag.
-fn raise(flags: &mut [bool], at: usize)
-    requires { ⌜ at < length (now flags) ⌝ }
-    ensures { λ r. ⌜ (now (flags .exit) ≡ set (now (flags .entry)) at true) × (getD (now (flags .exit)) at false ≡ true) ⌝ }
-{
-    flags[at] = true;
-}
-
-// Makes a position of the text the head of its bucket, and its hash known to the filter.
-fn enter(heads: &mut [u32; 1024], seen: &mut [bool; 16384], bucket: usize, h: u32, t: TextAt)
+// Makes a position of the text the head of its bucket, and sets its entry of the filter.
+fn enter(heads: &mut [u32; 1024], filter: &mut [u8; 4096], bucket: usize, h: u32, t: TextAt)
     requires { ⌜ (bucket < 1024) × (t .0 ≤ 2048) ⌝ }
     ensures { λ r. ⌜ now (heads .exit) ≡ set (now (heads .entry)) bucket (t .0) ⌝ }
-    ensures { λ r. ⌜ (now (seen .exit) ≡ set (now (seen .entry)) (slot h) true) × (getD (now (seen .exit)) (slot h) false ≡ true) ⌝ }
+    ensures { λ r. ⌜ (now (filter .exit) ≡ set (now (filter .entry)) (slot h) 2) × (getD (now (filter .exit)) (slot h) 0 ≡ 2) ⌝ }
 {
     heads[bucket] = t.0 as u32;
-    raise(seen, slot_of(h));
+    put(filter, slot_of(h), 2);
 }
 
-// Links the text's window at t to the head of its bucket, and makes it the head where its s words are free.
+// Links the text's window at t to the head of its bucket and makes it the head, where its s words are free and the pattern may
+// have its hash.
 fn link_window(
     ws: &mut [u32],
     pass: Pass,
     t: TextAt,
     free: usize,
     heads: &mut [u32; 1024],
-    seen: &mut [bool; 16384],
+    filter: &mut [u8; 4096],
 )
     requires { ⌜ Space (pass .job) (now ws) × (t .0 < pass .job .m) × (1 ≤ pass .buckets) × (pass .buckets ≤ 1024) ⌝ }
-    ensures { λ r. ⌜ Entered pass (t .0) free (now (ws .entry)) (now (heads .entry)) (now (seen .entry)) (now (ws .exit)) (now (heads .exit)) (now (seen .exit)) ⌝ }
+    ensures { λ r. ⌜ Entered pass (t .0) free (now (ws .entry)) (now (heads .entry)) (now (filter .entry)) (now (ws .exit)) (now (heads .exit)) (now (filter .exit)) ⌝ }
 {
-    let h = text_hash(ws, pass.job, t);
-    let bucket = bucket_of(h, pass.buckets);
-    set_link(ws, pass.job, t, heads[bucket]);
     if free < pass.s {
         return;
     }
-    enter(heads, seen, bucket, h, t);
+    let h = text_hash(ws, pass.job, t);
+    if entry_of(filter, h) == 0 {
+        return;
+    }
+    let bucket = bucket_of(h, pass.buckets);
+    set_link(ws, pass.job, t, heads[bucket]);
+    enter(heads, filter, bucket, h, t);
 }
 
 // Links the text's windows by bucket, from right to left, so that each chain rises.
-fn link_windows(ws: &mut [u32], pass: Pass, heads: &mut [u32; 1024], seen: &mut [bool; 16384])
-    requires { ⌜ Space (pass .job) (now ws) × Ranges pass × (now heads ≡ replicate 1024 2048) ⌝ }
-    ensures { λ r. ⌜ Linked pass (now (ws .entry)) (now (ws .exit)) (now (heads .exit)) (now (seen .exit)) ⌝ }
+fn link_windows(ws: &mut [u32], pass: Pass, heads: &mut [u32; 1024], filter: &mut [u8; 4096])
+    requires { ⌜ Space (pass .job) (now ws) × Ranges pass × (now heads ≡ replicate 1024 2048) × Raised (pass .job) (now ws) (now filter) ⌝ }
+    ensures { λ r. ⌜ Linked pass (now (ws .entry)) (now (ws .exit)) (now (heads .exit)) (now (filter .exit)) ⌝ }
 {
     let mut free = 0;
     let mut t = pass.job.m;
     while 0 < t {
         t -= 1;
         free = free_from(ws, pass.job, TextAt(t), free);
-        link_window(ws, pass, TextAt(t), free, heads, seen);
+        link_window(ws, pass, TextAt(t), free, heads, filter);
     }
 }
 
-// Hashes every window of s words and links the text's free windows by bucket, from right to left, so that each chain rises.
-// Every head must be 2,048, past every text; of the filter nothing is asked, since an entry that is true too often does no harm.
-pub fn build(ws: &mut [u32], pass: Pass, heads: &mut [u32; 1024], seen: &mut [bool; 16384])
-    requires { ⌜ Space (pass .job) (now ws) × Ranges pass × (now heads ≡ replicate 1024 2048) ⌝ }
-    ensures { λ r. ⌜ Built pass (now (ws .entry)) (now (ws .exit)) (now (heads .exit)) (now (seen .exit)) ⌝ }
+// Hashes every window of s words, and links those of the text by bucket that are free and whose hash the pattern may have. Every
+// head must be 2,048, past every text, and every entry of the filter 0.
+pub fn build(ws: &mut [u32], pass: Pass, heads: &mut [u32; 1024], filter: &mut [u8; 4096])
+    requires { ⌜ Space (pass .job) (now ws) × Ranges pass × (now heads ≡ replicate 1024 2048) × (now filter ≡ replicate 4096 0) ⌝ }
+    ensures { λ r. ⌜ Built pass (now (ws .entry)) (now (ws .exit)) (now (heads .exit)) (now (filter .exit)) ⌝ }
 {
     let words = pass.job.n + pass.job.m;
     window::hash_windows(ws, words, pass.multiplier, pass.s);
-    link_windows(ws, pass, heads, seen);
+    raise_rows(ws, pass.job, filter);
+    link_windows(ws, pass, heads, filter);
 }

@@ -17,8 +17,8 @@ element-write-heads c = search needs
 slot-of-requires : tie.Need-slot-of-requires
 slot-of-requires c κs = search needs
 
-raise-requires : tie.Need-raise-requires
-raise-requires c κs = search needs
+put-requires : tie.Need-put-requires
+put-requires c κs = search needs
 
 returns : tie.Need-returns
 returns c = (search needs, (search entered-at, search entered-known))
@@ -26,4 +26,4 @@ returns c = (search needs, (search entered-at, search entered-known))
 pub enter-spec : {M : Type 1} → statement M
 enter-spec =
     tie.close
-    (tie.spec cast-heads mul-heads element-write-heads slot-of-requires raise-requires returns)
+    (tie.spec cast-heads mul-heads element-write-heads slot-of-requires put-requires returns)

@@ -1,4 +1,4 @@
--- `index::link_windows` meets its contract: at the head of each turn the links are written from t on, each head is the first free window of its
+-- `index::link_windows` meets its contract: at the head of each turn the windows from t on are linked, each head is the first linked window of its
 -- bucket from t on, and free counts the calls from t on.
 -- Assumes nothing.
 use Rattle.index.proofs.Linking.{Backward, backward-none, backward-inside, backward-free, backward-more, backward-all}
@@ -7,10 +7,10 @@ use Rattle.index.proofs.link_windows.Statement.{statement}
 use Rattle.index.proofs.link_windows.Tie as tie
 
 abbrev Inv-loop : tie.InvT-loop
-Inv-loop ws₀ pass heads₀ seen₀ free₀ t₀ ws heads seen free t = Backward pass ws₀ ws heads seen t free
+Inv-loop ws₀ pass heads₀ filter₀ free₀ t₀ ws heads filter free t = Backward pass ws₀ ws heads filter t free
 
 abbrev μ-loop : tie.MeasureT-loop
-μ-loop ws₀ pass heads₀ seen₀ free₀ t₀ ws heads seen free t = t
+μ-loop ws₀ pass heads₀ filter₀ free₀ t₀ ws heads filter free t = t
 
 loop-holds : tie.Need-loop-holds Inv-loop μ-loop
 loop-holds c = search backward-none
