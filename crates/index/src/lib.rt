@@ -52,20 +52,13 @@ pub fn text_hash(ws: &[u32], job: Job, t: TextAt) -> u32
     ws[at]
 }
 
-// A word as a position.
-fn wide(w: u32) -> usize
-    ensures { λ r. ⌜ r ≡ w ⌝ }
-{
-    w as usize
-}
-
 // The next position of the text in the same bucket; after the last, 2,048, which is past every text.
 pub fn next_text(ws: &[u32], job: Job, t: TextAt) -> TextAt
     requires { ⌜ Space job (now ws) × (t .0 < job .m) ⌝ }
     ensures { λ r. ⌜ r .0 ≡ link job (now (ws .entry)) (t .0) ⌝ }
 {
     let at = 2 * (job.n + job.m) + job.n + t.0;
-    TextAt(wide(ws[at]))
+    TextAt(sweep::wide(ws[at]))
 }
 
 // The first position of the text in a bucket; where there is none, 2,048, which is past every text.
@@ -73,7 +66,7 @@ pub fn first_text(heads: &[u32; 1024], bucket: usize) -> TextAt
     requires { ⌜ bucket < 1024 ⌝ }
     ensures { λ r. ⌜ r .0 ≡ getD (now (heads .entry)) bucket 0 ⌝ }
 {
-    TextAt(wide(heads[bucket]))
+    TextAt(sweep::wide(heads[bucket]))
 }
 
 // The entry of the filter for a hash: 0 where the pattern has no window with that entry, 1 where it has one, and 2 where a

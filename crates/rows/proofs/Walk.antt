@@ -5,7 +5,7 @@ use Prim.Native.Nat.{ℕ, _+_, _-_, _≤_, _<_}
 use native.Mathlib.Decide.{decLt, decLe, ℕ-discrete}
 use native.Mathlib.Omega.{arith}
 use mathlib.Core.Path.{_≡_, refl, sym, _∙_, subst}
-use mathlib.Core.Bool.{Bool, true, false}
+use mathlib.Core.Bool.{true}
 use mathlib.Core.List.{List}
 use lib.ListN.{drop, getD, length-drop}
 use Rattle.window.specs.Hash.{bucket}
@@ -18,48 +18,33 @@ use Rattle.sweep.specs.Row.{better}
 use Rattle.sweep.specs.declared.Found.{Found}
 use Rattle.sweep.proofs.Row.{better-new, better-old}
 use Rattle.sweep.proofs.Workspace.{pattern-length, text-length}
-use Rattle.index.specs.Indexed.{Indexed, patternHash, textHash, link, slot}
+use Rattle.index.specs.Indexed.{Indexed, patternHash, link}
 use Rattle.index.specs.declared.Pass.{Pass}
 use Rattle.rows.specs.Reached.{Alike, Reached}
 
-pub record Walked (x : Pass) (ws : List ℕ) (p floor t : ℕ) (f : Found) : Type 0 where
-  pub least : floor ≤ f .len
+pub record Walked (x : Pass) (ws heads : List ℕ) (p t : ℕ) (f : Found) : Type 0 where
+  pub index : Indexed x ws heads
+  pub least : x .s - 1 ≤ f .len
   pub within : p + (f .len + 1 - x .s) ≤ x .job .n
   pub passed : (u : ℕ) → u < t → runAt (state (x .job) ws) p u ≤ f .len
-  pub long : floor < f .len → runAt (state (x .job) ws) p (f .t .0) ≡ f .len
-  pub first : floor < f .len → (u : ℕ) → u < f .t .0 → runAt (state (x .job) ws) p u < f .len
-  pub placed : 1 ≤ f .t .0 → floor < f .len
-  pub here : t < x .job .m → bucket (x .buckets) (textHash (x .job) ws t) ≡ bucket (x .buckets) (patternHash (x .job) ws p)
+  pub long : x .s - 1 < f .len → runAt (state (x .job) ws) p (f .t .0) ≡ f .len
+  pub first : x .s - 1 < f .len → (u : ℕ) → u < f .t .0 → runAt (state (x .job) ws) p u < f .len
+  pub here : t < x .job .m → index .linked (bucket (x .buckets) (patternHash (x .job) ws p)) t ≡ true
 
-module _ (x : Pass) (ws heads : List ℕ) (seen : List Bool) (p floor : ℕ) (index : Indexed x ws heads seen) (low : x .s ≤ floor + 1) where
-  -- A row that the filter does not know has no run of s words.
-  pub walk-unknown : (cap own : ℕ) (b : Bool) (a : TextAt) → a .0 ≡ 0 → own ≡ patternHash (x .job) ws p → b ≡ getD seen (slot own) false → b ≡ false → Reached (drop p (state (x .job) ws .pattern)) (state (x .job) ws .text) floor cap (record { t = a; len = floor })
-  walk-unknown cap own b a o e h z =
+module _ (x : Pass) (ws heads : List ℕ) (p : ℕ) where
+  abbrev floor : ℕ
+  floor = x .s - 1
+
+  pub walk-none : (own b t : ℕ) (a : TextAt) → Indexed x ws heads → p < x .job .n → own ≡ patternHash (x .job) ws p → b ≡ bucket (x .buckets) own → b < 1024 → t ≡ getD heads b 0 → Walked x ws heads p t (record { t = a; len = floor })
+  walk-none own b t a index w e f small h =
       record {
+        index = index;
         least = omega arith;
-        most = λ l u. go u (decLe (x .s) (runAt (state (x .job) ws) p u));
-        long = λ l. absurd (omega arith);
-        first = λ l. absurd (omega arith);
-        placed = λ l. absurd (omega arith);
-      }
-    where
-      unknown : getD seen (slot (patternHash (x .job) ws p)) false ≡ false
-      unknown = rw (← e) (sym h ∙ z)
-
-      go : (u : ℕ) → Dec (x .s ≤ runAt (state (x .job) ws) p u) → runAt (state (x .job) ws) p u ≤ floor
-      go u (yes l) = let f : false ≡ true = sym unknown ∙ index .known p u l in let c : _≡_ {A = ℕ} 0 1 = cc in absurd (omega arith)
-      go u (no l) = omega (arith, l)
-
-  pub walk-none : (own b t : ℕ) (a : TextAt) → a .0 ≡ 0 → p + (floor + 1 - x .s) ≤ x .job .n → own ≡ patternHash (x .job) ws p → b ≡ bucket (x .buckets) own → b < 1024 → t ≡ getD heads b 0 → Walked x ws p floor t (record { t = a; len = floor })
-  walk-none own b t a o w e f small h =
-      record {
-        least = omega arith;
-        within = w;
+        within = omega (arith, index .least);
         passed = λ u l. go u l (decLe (x .s) (runAt (state (x .job) ws) p u));
         long = λ l. absurd (omega arith);
         first = λ l. absurd (omega arith);
-        placed = λ l. absurd (omega arith);
-        here = λ l. rw h (rw (← own-bucket) (index .head-bucket b small (rw h at l)));
+        here = λ l. rw h (rw (← own-bucket) (index .head-linked b small (rw h at l)));
       }
     where
       own-bucket : b ≡ bucket (x .buckets) (patternHash (x .job) ws p)
@@ -67,9 +52,9 @@ module _ (x : Pass) (ws heads : List ℕ) (seen : List Bool) (p floor : ℕ) (in
 
       go : (u : ℕ) → u < t → Dec (x .s ≤ runAt (state (x .job) ws) p u) → runAt (state (x .job) ws) p u ≤ floor
       go u l (yes m) = let g : getD heads b 0 ≤ u = rw own-bucket (index .head p u m) in absurd (omega (arith, h))
-      go u l (no m) = omega (arith, m)
+      go u l (no m) = omega (arith, m, index .least)
 
-  module _ (a : TextAt) (f : Found) (i : Walked x ws p floor (a .0) f) (inside : a .0 < x .job .m) (space : Space (x .job) ws) (t' : ℕ) (on : t' ≡ link (x .job) ws (a .0)) where
+  module _ (a : TextAt) (f : Found) (i : Walked x ws heads p (a .0) f) (inside : a .0 < x .job .m) (space : Space (x .job) ws) (t' : ℕ) (on : t' ≡ link (x .job) ws (a .0)) where
     abbrev t : ℕ
     t = a .0
 
@@ -78,8 +63,8 @@ module _ (x : Pass) (ws heads : List ℕ) (seen : List Bool) (p floor : ℕ) (in
     between u l m = go (decLe (x .s) (runAt (state (x .job) ws) p u))
       where
         go : Dec (x .s ≤ runAt (state (x .job) ws) p u) → runAt (state (x .job) ws) p u ≤ f .len
-        go (yes n) = let g = index .next p u t n l (i .here inside) in absurd (omega (arith, on))
-        go (no n) = omega (arith, n, i .least)
+        go (yes n) = let g = i .index .next p u t n l (i .here inside) in absurd (omega (arith, on))
+        go (no n) = omega (arith, n, i .least, i .index .least)
 
     passed : (n : ℕ) → f .len ≤ n → runAt (state (x .job) ws) p t ≤ n → (u : ℕ) → u < t' → runAt (state (x .job) ws) p u ≤ n
     passed n g m u l = go (decLt u t) (ℕ-discrete u t)
@@ -89,60 +74,60 @@ module _ (x : Pass) (ws heads : List ℕ) (seen : List Bool) (p floor : ℕ) (in
         go (no b) (yes e) = rw e m
         go (no b) (no e) = omega (arith, between u (omega (arith, b, e)) l)
 
-    here : t' < x .job .m → bucket (x .buckets) (textHash (x .job) ws t') ≡ bucket (x .buckets) (patternHash (x .job) ws p)
-    here l = rw on (index .link-bucket t inside (rw on at l)) ∙ i .here inside
+    here : t' < x .job .m → i .index .linked (bucket (x .buckets) (patternHash (x .job) ws p)) t' ≡ true
+    here l = rw on (i .index .next-linked (bucket (x .buckets) (patternHash (x .job) ws p)) t inside (i .here inside) (rw on at l))
 
     fits : runAt (state (x .job) ws) p t ≤ x .job .n - p
     fits = omega (arith, run-within (drop p (state (x .job) ws .pattern)) (drop t (state (x .job) ws .text)), length-drop p (state (x .job) ws .pattern), pattern-length (x .job) ws space)
 
-    walk-better : p < x .job .n → Walked x ws p floor t' (better f a (runAt (state (x .job) ws) p t))
+    walk-better : p < x .job .n → Walked x ws heads p t' (better f a (runAt (state (x .job) ws) p t))
     walk-better row = go (decLt (f .len) (runAt (state (x .job) ws) p t))
       where
-        go : Dec (f .len < runAt (state (x .job) ws) p t) → Walked x ws p floor t' (better f a (runAt (state (x .job) ws) p t))
+        go : Dec (f .len < runAt (state (x .job) ws) p t) → Walked x ws heads p t' (better f a (runAt (state (x .job) ws) p t))
         go (yes l) =
-            subst (λ g. Walked x ws p floor t' g) (better-new f a (runAt (state (x .job) ws) p t) l)
+            subst (λ g. Walked x ws heads p t' g) (better-new f a (runAt (state (x .job) ws) p t) l)
             (record {
+              index = i .index;
               least = omega (arith, i .least);
-              within = omega (arith, fits, index .least);
+              within = omega (arith, fits, i .index .least);
               passed = passed (runAt (state (x .job) ws) p t) (omega arith) (omega arith);
               long = λ m. refl;
               first = λ m u b. omega (arith, i .passed u b);
-              placed = λ m. omega (arith, i .least);
               here = here;
             })
         go (no l) =
-            subst (λ g. Walked x ws p floor t' g) (better-old f a (runAt (state (x .job) ws) p t) (omega (arith, l)))
+            subst (λ g. Walked x ws heads p t' g) (better-old f a (runAt (state (x .job) ws) p t) (omega (arith, l)))
             (record {
+              index = i .index;
               least = i .least;
               within = i .within;
               passed = passed (f .len) (omega arith) (omega (arith, l));
               long = i .long;
               first = i .first;
-              placed = i .placed;
               here = here;
             })
 
-    pub walk-more : p < x .job .n → (g : Found) → g ≡ better f a (runAt (state (x .job) ws) p t) → Walked x ws p floor t' g
-    walk-more row g e = subst (λ y. Walked x ws p floor t' y) (sym e) (walk-better row)
+    pub walk-more : p < x .job .n → (g : Found) → g ≡ better f a (runAt (state (x .job) ws) p t) → Walked x ws heads p t' g
+    walk-more row g e = subst (λ y. Walked x ws heads p t' y) (sym e) (walk-better row)
 
   -- A walk rises, so it ends.
-  pub walk-rises : (t t' : ℕ) → t < x .job .m → t' ≡ link (x .job) ws t → x .job .m - t' < x .job .m - t
-  walk-rises t t' inside on = omega (arith, index .rising t inside, on)
+  pub walk-rises : (t t' : ℕ) (f : Found) → Walked x ws heads p t f → t < x .job .m → t' ≡ link (x .job) ws t → x .job .m - t' < x .job .m - t
+  walk-rises t t' f i inside on = omega (arith, i .index .rising (bucket (x .buckets) (patternHash (x .job) ws p)) t inside (i .here inside), on)
 
-pub walk-alike : (x : Pass) (ws heads : List ℕ) (seen : List Bool) → Indexed x ws heads seen → Alike x ws
-walk-alike x ws heads seen index = index .kin
+  -- What was found is at least one below the search length.
+  pub walk-low : (t : ℕ) (f : Found) → Walked x ws heads p t f → x .s ≤ f .len + 1
+  walk-low t f i = omega (arith, i .least, i .index .least)
 
--- What was found is at least one below the search length.
-pub walk-low : (x : Pass) (ws : List ℕ) (p floor t : ℕ) (f : Found) → Walked x ws p floor t f → x .s ≤ floor + 1 → x .s ≤ f .len + 1
-walk-low x ws p floor t f i h = omega (arith, i .least)
+  -- Past the text there are no runs.
+  pub walk-end : (cap t : ℕ) (f : Found) → Walked x ws heads p t f → Space (x .job) ws → x .job .m ≤ t → Reached (drop p (state (x .job) ws .pattern)) (state (x .job) ws .text) floor cap f
+  walk-end cap t f i space h = record { least = i .least; most = λ l u. go u (decLt u t); long = i .long; first = i .first }
+    where
+      go : (u : ℕ) → Dec (u < t) → runAt (state (x .job) ws) p u ≤ f .len
+      go u (yes l) = i .passed u l
+      go u (no l) = omega (arith, past-text (state (x .job) ws) p u (omega (arith, text-length (x .job) ws space, l)))
 
--- Past the text there are no runs.
-pub walk-end : (x : Pass) (ws : List ℕ) (p floor cap t : ℕ) (f : Found) → Walked x ws p floor t f → Space (x .job) ws → x .job .m ≤ t → Reached (drop p (state (x .job) ws .pattern)) (state (x .job) ws .text) floor cap f
-walk-end x ws p floor cap t f i space h = record { least = i .least; most = λ l u. go u (decLt u t); long = i .long; first = i .first; placed = i .placed }
-  where
-    go : (u : ℕ) → Dec (u < t) → runAt (state (x .job) ws) p u ≤ f .len
-    go u (yes l) = i .passed u l
-    go u (no l) = omega (arith, past-text (state (x .job) ws) p u (omega (arith, text-length (x .job) ws space, l)))
+  pub walk-cap : (cap t : ℕ) (f : Found) → Walked x ws heads p t f → cap ≤ f .len → Reached (drop p (state (x .job) ws .pattern)) (state (x .job) ws .text) floor cap f
+  walk-cap cap t f i h = record { least = i .least; most = λ l. absurd (omega arith); long = i .long; first = i .first }
 
-pub walk-cap : (x : Pass) (ws : List ℕ) (p floor cap t : ℕ) (f : Found) → Walked x ws p floor t f → cap ≤ f .len → Reached (drop p (state (x .job) ws .pattern)) (state (x .job) ws .text) floor cap f
-walk-cap x ws p floor cap t f i h = record { least = i .least; most = λ l. absurd (omega arith); long = i .long; first = i .first; placed = i .placed }
+pub walk-alike : (x : Pass) (ws heads : List ℕ) → Indexed x ws heads → Alike x ws
+walk-alike x ws heads index = index .kin

@@ -5,22 +5,18 @@ use sweep::Found;
 use sweep::Job;
 use tile::PatternAt;
 use tile::TextAt;
-ghost use mathlib.Core.Bool.{true};
+ghost use mathlib.Core.Bool.{_&&_};
 ghost use mathlib.Core.Path.{_≡_};
 ghost use Prim.Native.Nat.{_+_, _-_, _≤_, _<_, max};
-ghost use lib.Dec.{eqb};
-ghost use lib.ListN.{drop};
+ghost use lib.Dec.{eqb, ltb};
+ghost use lib.ListN.{drop, getD, set};
+ghost use Rattle.window.specs.Hash.{bucket};
 ghost use Rattle.tiling.specs.Tiling.{runAt};
-ghost use Rattle.sweep.specs.Workspace.{Space, state, bound};
-ghost use Rattle.sweep.specs.Row.{better, Greatest};
-ghost use Rattle.index.specs.Indexed.{Ranges, Indexed, patternHash, textHash};
-ghost use Rattle.rows.specs.Reached.{Alike, Further, Reached, RowBound, FilledRows, Probed, Measured};
-
-// What a row is searched for: runs longer than floor, up to the first of at least cap words.
-pub struct Range {
-    pub floor: usize,
-    pub cap: usize,
-}
+ghost use Rattle.sweep.specs.Workspace.{Space, state};
+ghost use Rattle.sweep.specs.Row.{better};
+ghost use Rattle.index.specs.Indexed.{Ranges, Indexed, Filtered, patternHash, textHash};
+ghost use Rattle.index.specs.Built.{when};
+ghost use Rattle.rows.specs.Reached.{Alike, UpperFrom, Reached, Looked, RowBound, FilledRows, toldBy, goesOn, takenOver};
 
 // The run at a pair of positions where it is longer than best, else best.
 fn longer_at(ws: &[u32], job: Job, p: PatternAt, t: TextAt, best: usize) -> usize
@@ -35,7 +31,7 @@ fn longer_at(ws: &[u32], job: Job, p: PatternAt, t: TextAt, best: usize) -> usiz
 }
 
 // Whether the windows at a pair of positions have the same hash.
-fn alike(ws: &[u32], job: Job, p: PatternAt, t: TextAt) -> bool
+fn same_hash(ws: &[u32], job: Job, p: PatternAt, t: TextAt) -> bool
     requires { ⌜ Space job (now ws) × (p .0 < job .n + job .m) × (t .0 < job .n + job .m) ⌝ }
     ensures { λ r. ⌜ r ≡ eqb (textHash job (now (ws .entry)) (t .0)) (patternHash job (now (ws .entry)) (p .0)) ⌝ }
 {
@@ -48,7 +44,7 @@ fn ends_alike(ws: &[u32], pass: Pass, p: PatternAt, t: TextAt, len: usize) -> bo
     ensures { λ r. ⌜ r ≡ eqb (textHash (pass .job) (now (ws .entry)) (t .0 + (len + 1 - pass .s))) (patternHash (pass .job) (now (ws .entry)) (p .0 + (len + 1 - pass .s))) ⌝ }
 {
     let from = len + 1 - pass.s;
-    alike(ws, pass.job, PatternAt(p.0 + from), TextAt(t.0 + from))
+    same_hash(ws, pass.job, PatternAt(p.0 + from), TextAt(t.0 + from))
 }
 
 // Looks at a pair of positions, for a run longer than what was found, only where the windows of s words that begin there have
@@ -57,7 +53,7 @@ fn look(ws: &[u32], pass: Pass, p: PatternAt, t: TextAt, found: Found) -> Found
     requires { ⌜ Space (pass .job) (now ws) × Alike pass (now ws) × Ranges pass × (t .0 < pass .job .m) × (pass .s ≤ found .len + 1) × (p .0 + (found .len + 1 - pass .s) ≤ pass .job .n) ⌝ }
     ensures { λ r. ⌜ r ≡ better found t (runAt (state (pass .job) (now (ws .entry))) (p .0) (t .0)) ⌝ }
 {
-    if !alike(ws, pass.job, p, t) {
+    if !same_hash(ws, pass.job, p, t) {
         return found;
     }
     if !ends_alike(ws, pass, p, t, found.len) {
@@ -67,68 +63,177 @@ fn look(ws: &[u32], pass: Pass, p: PatternAt, t: TextAt, found: Found) -> Found
     sweep::keep(found, t, len)
 }
 
-// The longest run of the row at p, where it is longer than the floor, and the first position on the text that has it; or the
-// first run of at least cap words that is met. Only the positions in the bucket of p's window are visited.
-pub fn row_search(
-    ws: &[u32],
-    pass: Pass,
-    heads: &[u32; 1024],
-    seen: &[bool; 16384],
-    p: PatternAt,
-    range: Range,
-) -> Found
-    requires { ⌜ Space (pass .job) (now ws) × Indexed pass (now ws) (now heads) (now seen) × Ranges pass × (pass .s ≤ range .floor + 1) × (range .floor ≤ 4096) × (p .0 < pass .job .n) × (p .0 + (range .floor + 1 - pass .s) ≤ pass .job .n) ⌝ }
-    ensures { λ r. ⌜ Reached (drop (p .0) (state (pass .job) (now (ws .entry)) .pattern)) (state (pass .job) (now (ws .entry)) .text) (range .floor) (range .cap) r ⌝ }
+// The longest run of the row at p, where it has at least s words, and the first position on the text that has it; or the first
+// run of at least cap words that is met. Only the positions in the bucket of p's window are visited.
+fn row_search(ws: &[u32], pass: Pass, heads: &[u32; 1024], p: PatternAt, cap: usize) -> Found
+    requires { ⌜ Space (pass .job) (now ws) × Indexed pass (now ws) (now heads) × Ranges pass × (p .0 < pass .job .n) ⌝ }
+    ensures { λ r. ⌜ Reached (drop (p .0) (state (pass .job) (now (ws .entry)) .pattern)) (state (pass .job) (now (ws .entry)) .text) (pass .s - 1) cap r ⌝ }
 {
     let mut found = Found {
         t: TextAt(0),
-        len: range.floor,
+        len: pass.s - 1,
     };
     let own = index::pattern_hash(ws, pass.job, p);
-    if !index::knows(seen, own) {
-        return found;
-    }
     let mut t = index::first_text(heads, index::bucket_of(own, pass.buckets));
-    while t.0 < pass.job.m && found.len < range.cap {
+    while t.0 < pass.job.m && found.len < cap {
         found = look(ws, pass, p, t, found);
         t = index::next_text(ws, pass.job, t);
     }
     found
 }
 
-// Whether the run that was found in the row after p goes on with the words one position before it.
-fn goes_on(ws: &[u32], job: Job, p: PatternAt, after: Found) -> bool
-    requires { ⌜ Space job (now ws) × (p .0 < job .n) ⌝ }
-    ensures { λ r. ⌜ (r ≡ true → Further job (now (ws .entry)) (p .0) (after .t .0)) ⌝ }
+// The row that was remembered for a bucket; 2,048, which is past every pattern, where there is none.
+fn last_row(last: &[u32; 1024], bucket: usize) -> PatternAt
+    requires { ⌜ bucket < 1024 ⌝ }
+    ensures { λ r. ⌜ r .0 ≡ getD (now (last .entry)) bucket 0 ⌝ }
 {
-    let t = after.t.0;
-    if t == 0 {
+    PatternAt(sweep::wide(last[bucket]))
+}
+
+// Remembers a row for the bucket of its window, where its longest run is shorter than cap.
+fn remember(ws: &[u32], pass: Pass, last: &mut [u32; 1024], p: PatternAt, len: usize, cap: usize)
+    requires { ⌜ Space (pass .job) (now ws) × Ranges pass × (p .0 < pass .job .n) ⌝ }
+    ensures { λ r. ⌜ now (last .exit) ≡ when (ltb len cap) (set (now (last .entry)) (bucket (pass .buckets) (patternHash (pass .job) (now (ws .entry)) (p .0))) (p .0)) (now (last .entry)) ⌝ }
+{
+    if cap <= len {
+        return;
+    }
+    let own = index::pattern_hash(ws, pass.job, p);
+    let bucket = index::bucket_of(own, pass.buckets);
+    last[bucket] = p.0 as u32;
+}
+
+// Searches row p, and remembers it.
+fn search_row(
+    ws: &[u32],
+    pass: Pass,
+    heads: &[u32; 1024],
+    last: &mut [u32; 1024],
+    p: PatternAt,
+    cap: usize,
+) -> Found
+    requires { ⌜ Space (pass .job) (now ws) × Indexed pass (now ws) (now heads) × Ranges pass × (p .0 < pass .job .n) ⌝ }
+    ensures { λ r. ⌜ Reached (drop (p .0) (state (pass .job) (now (ws .entry)) .pattern)) (state (pass .job) (now (ws .entry)) .text) (pass .s - 1) cap r ⌝ }
+{
+    let found = row_search(ws, pass, heads, p, cap);
+    remember(ws, pass, last, p, found.len, cap);
+    found
+}
+
+// What the row that is remembered for the bucket of p's window tells of row p, of which no run exceeds cap: nothing, and then it
+// is cap, where that row is before `from` or its window has another hash.
+fn told(
+    ws: &[u32],
+    pass: Pass,
+    last: &[u32; 1024],
+    p: PatternAt,
+    from: PatternAt,
+    cap: usize,
+) -> usize
+    requires { ⌜ Space (pass .job) (now ws) × Ranges pass × (p .0 < pass .job .n) ⌝ }
+    ensures { λ r. ⌜ r ≡ toldBy pass (now (ws .entry)) (now (last .entry)) (p .0) (from .0) cap ⌝ }
+{
+    let own = index::pattern_hash(ws, pass.job, p);
+    let q = last_row(last, index::bucket_of(own, pass.buckets));
+    if q.0 < from.0 {
+        return cap;
+    }
+    if pass.job.n <= q.0 {
+        return cap;
+    }
+    if index::pattern_hash(ws, pass.job, q) != own {
+        return cap;
+    }
+    sweep::bound_by(ws, pass.job, p, q, cap)
+}
+
+// The first run of cap words of row p, which has none that is longer; else a length below cap that no run of it exceeds, as
+// another row tells it or a search.
+pub fn find(
+    ws: &[u32],
+    pass: Pass,
+    heads: &[u32; 1024],
+    last: &mut [u32; 1024],
+    p: PatternAt,
+    cap: usize,
+) -> Found
+    requires { ⌜ Space (pass .job) (now ws) × Indexed pass (now ws) (now heads) × Ranges pass × (p .0 < pass .job .n) × (pass .s ≤ cap) × UpperFrom (pass .job) (now ws) 0 ⌝ }
+    ensures { λ r. ⌜ Looked (state (pass .job) (now (ws .entry))) (p .0) cap r ⌝ }
+{
+    let known = told(ws, pass, last, p, PatternAt(0), cap);
+    if known < cap {
+        return Found {
+            t: TextAt(0),
+            len: known,
+        };
+    }
+    search_row(ws, pass, heads, last, p, cap)
+}
+
+// Whether the run at t of the row after p goes on with the words one position before it.
+fn goes_on(ws: &[u32], job: Job, p: PatternAt, t: TextAt) -> bool
+    requires { ⌜ Space job (now ws) × (p .0 < job .n) ⌝ }
+    ensures { λ r. ⌜ r ≡ goesOn job (now (ws .entry)) (p .0) (t .0) ⌝ }
+{
+    if t.0 == 0 {
         return false;
     }
-    if job.m < t {
+    if job.m < t.0 {
         return false;
     }
-    if !alike(ws, job, p, TextAt(t - 1)) {
+    if !same_hash(ws, job, p, TextAt(t.0 - 1)) {
         return false;
     }
     let on_pattern = p.0;
-    let on_text = job.n + t - 1;
+    let on_text = job.n + t.0 - 1;
     symbol::equal_calls(ws[on_pattern], ws[on_text])
 }
 
-// A length that no run of the row at p exceeds, and where it was found, from that of the row after it: a run is at most one
-// word longer than the run one position on. From s words on it is the length of a run. Too high a length below that would do
-// no harm, only the search of a row more.
+// Whether a length is taken over from the row after, without a search: from twice the search length on, unless it is a power of
+// 2. So no bound is twice what a search would have found, and a long run is measured only a few times.
+fn taken_over(s: usize, cap: usize) -> bool
+    requires { ⌜ (s ≤ 2048) × (1 ≤ cap) ⌝ }
+    ensures { λ r. ⌜ r ≡ takenOver s cap ⌝ }
+{
+    (2 * s <= cap) & (cap & (cap - 1) != 0)
+}
+
+// A length up to cap that no run of the row at p exceeds, where none exceeds cap: as another row tells it, or cap itself where
+// that is taken over, or as a search finds it.
+fn capped(
+    ws: &[u32],
+    pass: Pass,
+    heads: &[u32; 1024],
+    last: &mut [u32; 1024],
+    p: PatternAt,
+    cap: usize,
+) -> Found
+    requires { ⌜ Space (pass .job) (now ws) × Indexed pass (now ws) (now heads) × Ranges pass × (p .0 < pass .job .n) × (pass .s ≤ cap) × RowBound (pass .job) (state (pass .job) (now ws)) (p .0) cap × UpperFrom (pass .job) (now ws) (p .0 + 1) ⌝ }
+    ensures { λ r. ⌜ RowBound (pass .job) (state (pass .job) (now (ws .entry))) (p .0) (r .len) ⌝ }
+{
+    let known = told(ws, pass, last, p, PatternAt(p.0 + 1), cap);
+    if known < cap || taken_over(pass.s, cap) {
+        return Found {
+            t: TextAt(0),
+            len: known,
+        };
+    }
+    search_row(ws, pass, heads, last, p, cap)
+}
+
+// A length that no run of the row at p exceeds, from that of the row after it: a run is at most one word longer than the run one
+// position on. The position is one at which a run of that length may be, or 0.
 fn row_bound(
     ws: &[u32],
     pass: Pass,
     heads: &[u32; 1024],
-    seen: &[bool; 16384],
+    filter: &[u8; 4096],
+    last: &mut [u32; 1024],
     p: PatternAt,
     after: Found,
 ) -> Found
-    requires { ⌜ Space (pass .job) (now ws) × Indexed pass (now ws) (now heads) (now seen) × Ranges pass × (p .0 < pass .job .n) × RowBound pass (state (pass .job) (now ws)) (p .0 + 1) after ⌝ }
-    ensures { λ r. ⌜ RowBound pass (state (pass .job) (now (ws .entry))) (p .0) r ⌝ }
+    requires { ⌜ Space (pass .job) (now ws) × Indexed pass (now ws) (now heads) × Filtered pass (now ws) (now filter) × Ranges pass × (p .0 < pass .job .n) × RowBound (pass .job) (state (pass .job) (now ws)) (p .0 + 1) (after .len) × UpperFrom (pass .job) (now ws) (p .0 + 1) ⌝ }
+    ensures { λ r. ⌜ RowBound (pass .job) (state (pass .job) (now (ws .entry))) (p .0) (r .len) ⌝ }
 {
     let at = p.0;
     if !symbol::is_call(ws[at]) {
@@ -144,76 +249,40 @@ fn row_bound(
             len: cap,
         };
     }
-    if goes_on(ws, pass.job, p, after) {
+    if goes_on(ws, pass.job, p, after.t) {
         return Found {
             t: TextAt(after.t.0 - 1),
             len: cap,
         };
     }
-    let range = Range {
-        floor: pass.s - 1,
-        cap,
-    };
-    row_search(ws, pass, heads, seen, p, range)
+    if index::entry_of(filter, index::pattern_hash(ws, pass.job, p)) != 2 {
+        return Found {
+            t: TextAt(0),
+            len: pass.s - 1,
+        };
+    }
+    capped(ws, pass, heads, last, p, cap)
 }
 
 // Sets the bound of each row, from the last to the first.
-fn fill_rows(ws: &mut [u32], pass: Pass, heads: &[u32; 1024], seen: &[bool; 16384])
-    requires { ⌜ Space (pass .job) (now ws) × Indexed pass (now ws) (now heads) (now seen) × Ranges pass ⌝ }
-    ensures { λ r. ⌜ FilledRows pass (now (heads .entry)) (now (seen .entry)) (now (ws .entry)) (now (ws .exit)) ⌝ }
+pub fn fill_bounds(
+    ws: &mut [u32],
+    pass: Pass,
+    heads: &[u32; 1024],
+    filter: &[u8; 4096],
+    last: &mut [u32; 1024],
+)
+    requires { ⌜ Space (pass .job) (now ws) × Indexed pass (now ws) (now heads) × Filtered pass (now ws) (now filter) × Ranges pass ⌝ }
+    ensures { λ r. ⌜ FilledRows pass (now (heads .entry)) (now (ws .entry)) (now (ws .exit)) ⌝ }
 {
-    let mut last = Found {
+    let mut after = Found {
         t: TextAt(0),
         len: 0,
     };
     let mut p = pass.job.n;
     while 0 < p {
         p -= 1;
-        last = row_bound(ws, pass, heads, seen, PatternAt(p), last);
-        sweep::set_bound(ws, pass.job, PatternAt(p), last.len);
+        after = row_bound(ws, pass, heads, filter, last, PatternAt(p), after);
+        sweep::set_bound(ws, pass.job, PatternAt(p), after.len);
     }
-}
-
-// Sets the bounds of all rows, and answers the greatest.
-pub fn fill_bounds(ws: &mut [u32], pass: Pass, heads: &[u32; 1024], seen: &[bool; 16384]) -> usize
-    requires { ⌜ Space (pass .job) (now ws) × Indexed pass (now ws) (now heads) (now seen) × Ranges pass ⌝ }
-    ensures { λ r. ⌜ FilledRows pass (now (heads .entry)) (now (seen .entry)) (now (ws .entry)) (now (ws .exit)) ⌝ }
-    ensures { λ r. ⌜ Greatest (bound (pass .job) (now (ws .exit))) (pass .job .n) r ⌝ }
-{
-    fill_rows(ws, pass, heads, seen);
-    sweep::greatest_bound(ws, pass.job)
-}
-
-// The length of a run of more than 2 s words, where one is met in a row whose position is a multiple of s; else 0. It looks for
-// 2 s words, since two windows of s words cover just that many: the words are looked at only where both have the same hashes.
-fn probe(ws: &[u32], pass: Pass, heads: &[u32; 1024], seen: &[bool; 16384]) -> usize
-    requires { ⌜ Space (pass .job) (now ws) × Indexed pass (now ws) (now heads) (now seen) × Ranges pass ⌝ }
-    ensures { λ r. ⌜ Probed pass (now (ws .entry)) r ⌝ }
-{
-    let s = pass.s;
-    let range = Range {
-        floor: 2 * s - 1,
-        cap: 2 * s + 1,
-    };
-    let mut p = 0;
-    while p + 2 * s < pass.job.n {
-        let found = row_search(ws, pass, heads, seen, PatternAt(p), range);
-        if 2 * s < found.len {
-            return found.len;
-        }
-        p += s;
-    }
-    0
-}
-
-// The length of a run of more than 2 s words, if one is met; else the bounds are set, and it is the greatest of them.
-pub fn longest(ws: &mut [u32], pass: Pass, heads: &[u32; 1024], seen: &[bool; 16384]) -> usize
-    requires { ⌜ Space (pass .job) (now ws) × Indexed pass (now ws) (now heads) (now seen) × Ranges pass ⌝ }
-    ensures { λ r. ⌜ Measured pass (now (heads .entry)) (now (seen .entry)) (now (ws .entry)) (now (ws .exit)) r ⌝ }
-{
-    let far = probe(ws, pass, heads, seen);
-    if 2 * pass.s < far {
-        return far;
-    }
-    fill_bounds(ws, pass, heads, seen)
 }

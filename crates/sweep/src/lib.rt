@@ -44,8 +44,8 @@ pub fn keep(found: Found, t: TextAt, len: usize) -> Found
     found
 }
 
-// A word as a length.
-fn wide(w: u32) -> usize
+// A word as a length or a position.
+pub fn wide(w: u32) -> usize
     ensures { λ r. ⌜ r ≡ w ⌝ }
 {
     w as usize

@@ -1,25 +1,25 @@
--- `rows::goes_on` meets its contract: where it is true the position and the hashes were tested, and the words before it match.
+-- `rows::goes_on` meets its contract: position, hashes and words are tested in turn.
 -- Assumes nothing.
-use Rattle.rows.proofs.Bounds.{goes-nowhere, goes-further}
-use borrow.Author.Tests.{not-false}
+use Rattle.rows.proofs.Bounds.{goes-first, goes-past, goes-unlike, goes-by}
+use borrow.Author.Tests.{not-true, not-false}
 use borrow.Author.Needs.{needs}
 use Rattle.rows.proofs.goes_on.Statement.{statement}
 use Rattle.rows.proofs.goes_on.Tie as tie
 
 returns : tie.Need-returns
-returns c = search goes-nowhere
+returns c = search goes-first
 
 returns-2 : tie.Need-returns-2
-returns-2 c = search goes-nowhere
+returns-2 c = search goes-past
 
 sub-on-text : tie.Need-sub-on-text
 sub-on-text c = search needs
 
-alike-requires : tie.Need-alike-requires
-alike-requires c κs = search needs
+same-hash-requires : tie.Need-same-hash-requires
+same-hash-requires c κs = search needs
 
 returns-3 : tie.Need-returns-3
-returns-3 c = search goes-nowhere
+returns-3 c = search (goes-unlike, not-true)
 
 add-on-text : tie.Need-add-on-text
 add-on-text c = search needs
@@ -43,7 +43,7 @@ equal-calls-requires : tie.Need-equal-calls-requires
 equal-calls-requires c κs = search needs
 
 returns-4 : tie.Need-returns-4
-returns-4 c = search (goes-further, not-false)
+returns-4 c = search (goes-by, not-false)
 
 pub goes-on-spec : {M : Type 1} → statement M
 goes-on-spec =
@@ -52,7 +52,7 @@ goes-on-spec =
     returns
     returns-2
     sub-on-text
-    alike-requires
+    same-hash-requires
     returns-3
     add-on-text
     sub-on-text-2

@@ -6,8 +6,8 @@ use borrow.Author.Needs.{needs}
 use Rattle.rows.proofs.look.Statement.{statement}
 use Rattle.rows.proofs.look.Tie as tie
 
-alike-requires : tie.Need-alike-requires
-alike-requires c κs = search needs
+same-hash-requires : tie.Need-same-hash-requires
+same-hash-requires c κs = search needs
 
 returns : tie.Need-returns
 returns c = search (look-unlike, not-true)
@@ -33,7 +33,7 @@ pub look-spec : {M : Type 1} → statement M
 look-spec =
     tie.close
     (tie.spec
-    alike-requires
+    same-hash-requires
     returns
     ends-alike-requires
     returns-2

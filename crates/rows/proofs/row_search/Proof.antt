@@ -1,26 +1,23 @@
--- `rows::row_search` meets its contract: at the head of each turn what was found is the longest of the runs before t, or the floor.
+-- `rows::row_search` meets its contract: at the head of each turn what was found is the longest of the runs before t, or one word less than a window.
 -- Assumes nothing.
-use Rattle.rows.proofs.Walk.{Walked, walk-alike, walk-low, walk-unknown, walk-none, walk-more, walk-rises, walk-end, walk-cap}
+use Rattle.rows.proofs.Walk.{Walked, walk-alike, walk-low, walk-none, walk-more, walk-rises, walk-end, walk-cap}
 use Prim.Native.Nat.{_-_}
-use borrow.Author.Tests.{ltb-false, not-true}
+use borrow.Author.Tests.{ltb-false}
 use borrow.Author.Needs.{needs}
 use Rattle.rows.proofs.row_search.Statement.{statement}
 use Rattle.rows.proofs.row_search.Tie as tie
 
 abbrev Inv-loop : tie.InvT-loop
-Inv-loop ws pass heads seen p range found₀ own t₀ found t = Walked pass ws (p .0) (range .floor) (t .0) found
+Inv-loop ws pass heads p cap found₀ own t₀ found t = Walked pass ws heads (p .0) (t .0) found
 
 abbrev μ-loop : tie.MeasureT-loop
-μ-loop ws pass heads seen p range found₀ own t₀ found t = pass .job .m - t .0
+μ-loop ws pass heads p cap found₀ own t₀ found t = pass .job .m - t .0
+
+sub-first-text : tie.Need-sub-first-text Inv-loop μ-loop
+sub-first-text c = search needs
 
 pattern-hash-requires : tie.Need-pattern-hash-requires Inv-loop μ-loop
 pattern-hash-requires c κs = search needs
-
-knows-requires : tie.Need-knows-requires Inv-loop μ-loop
-knows-requires c κs = search needs
-
-returns : tie.Need-returns Inv-loop μ-loop
-returns c = search (walk-unknown, not-true)
 
 bucket-of-requires : tie.Need-bucket-of-requires Inv-loop μ-loop
 bucket-of-requires c κs = search needs
@@ -43,11 +40,11 @@ loop-less c = search walk-rises
 loop-again : tie.Need-loop-again Inv-loop μ-loop
 loop-again c = search walk-more
 
-returns-2 : tie.Need-returns-2 Inv-loop μ-loop
-returns-2 c = search (walk-cap, ltb-false)
+returns : tie.Need-returns Inv-loop μ-loop
+returns c = search (walk-cap, ltb-false)
 
-returns-3 : tie.Need-returns-3 Inv-loop μ-loop
-returns-3 c = search walk-end
+returns-2 : tie.Need-returns-2 Inv-loop μ-loop
+returns-2 c = search walk-end
 
 pub row-search-spec : {M : Type 1} → statement M
 row-search-spec =
@@ -55,9 +52,8 @@ row-search-spec =
     (tie.spec
     Inv-loop
     μ-loop
+    sub-first-text
     pattern-hash-requires
-    knows-requires
-    returns
     bucket-of-requires
     first-text-requires
     loop-holds
@@ -65,5 +61,5 @@ row-search-spec =
     next-text-requires
     loop-less
     loop-again
-    returns-2
-    returns-3)
+    returns
+    returns-2)

@@ -1,15 +1,15 @@
--- `rows::fill_rows` meets its contract: at the head of each turn the rows from p on have their bounds, and the last of them caps the row before.
+-- `rows::fill_bounds` meets its contract: at the head of each turn the rows from p on have their bounds, and the last of them caps the row before.
 -- Assumes nothing.
-use Rattle.rows.proofs.Bounds.{Filling, filling-none, filling-more, filling-all, before-row, row-fits}
+use Rattle.rows.proofs.Bounds.{Filling, filling-none, filling-more, filling-all, before-row, before-upper, row-fits}
 use borrow.Author.Needs.{needs}
-use Rattle.rows.proofs.fill_rows.Statement.{statement}
-use Rattle.rows.proofs.fill_rows.Tie as tie
+use Rattle.rows.proofs.fill_bounds.Statement.{statement}
+use Rattle.rows.proofs.fill_bounds.Tie as tie
 
 abbrev Inv-loop : tie.InvT-loop
-Inv-loop ws₀ pass heads seen last₀ p₀ ws last p = Filling pass heads seen ws₀ ws p last
+Inv-loop ws₀ pass heads filter last₀ after₀ p₀ ws last after p = Filling pass heads filter ws₀ ws p after
 
 abbrev μ-loop : tie.MeasureT-loop
-μ-loop ws₀ pass heads seen last₀ p₀ ws last p = p
+μ-loop ws₀ pass heads filter last₀ after₀ p₀ ws last after p = p
 
 loop-holds : tie.Need-loop-holds Inv-loop μ-loop
 loop-holds c = search filling-none
@@ -18,7 +18,7 @@ sub-p : tie.Need-sub-p Inv-loop μ-loop
 sub-p c = search needs
 
 row-bound-requires : tie.Need-row-bound-requires Inv-loop μ-loop
-row-bound-requires c κs = (search needs, search needs, search needs, search needs, search before-row)
+row-bound-requires c κs = (search needs, search needs, search needs, search needs, search needs, search before-row, search before-upper)
 
 set-bound-requires : tie.Need-set-bound-requires Inv-loop μ-loop
 set-bound-requires c κs = (search needs, search needs, search row-fits)
@@ -35,8 +35,8 @@ same-length c = search needs
 returns : tie.Need-returns Inv-loop μ-loop
 returns c = search filling-all
 
-pub fill-rows-spec : {M : Type 1} → statement M
-fill-rows-spec =
+pub fill-bounds-spec : {M : Type 1} → statement M
+fill-bounds-spec =
     tie.close
     (tie.spec
     Inv-loop
