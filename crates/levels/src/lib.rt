@@ -1,27 +1,19 @@
 // The tiles of one pass: rows are searched by the index, level by level, and their tiles are laid.
 use index::Pass;
-use rows::Range;
-use sweep::Job;
+use sweep::Round;
 use sweep::Totals;
 use tile::PatternAt;
 ghost use mathlib.Core.Path.{_≡_};
 ghost use Prim.Native.Nat.{_+_, _≤_, _<_};
-ghost use Rattle.sweep.specs.Workspace.{Space, bound};
-ghost use Rattle.sweep.specs.Row.{Greatest};
-ghost use Rattle.sweep.specs.First.{First};
-ghost use Rattle.sweep.specs.Progress.{Ready, Sweeping, Onward, Finished};
+ghost use Rattle.sweep.specs.Workspace.{bound};
+ghost use Rattle.sweep.specs.Blocks.{Covering};
+ghost use Rattle.sweep.specs.Progress.{Ready, Falling, Sweeping, Onward, Finished};
 ghost use Rattle.index.specs.Indexed.{Ranges, Indexed};
 
-// The first row from `from` on whose bound is the level, or one past the last.
-fn next_row(ws: &[u32], job: Job, level: usize, from: PatternAt) -> PatternAt
-    requires { ⌜ Space job (now ws) × (from .0 ≤ job .n) ⌝ }
-    ensures { λ r. ⌜ First (λ q. bound job (now (ws .entry)) q ≡ level) (from .0) (job .n) (r .0) ⌝ }
-{
-    let mut p = from.0;
-    while p < job.n && sweep::bound_of(ws, job, PatternAt(p)) != level {
-        p += 1;
-    }
-    PatternAt(p)
+// A row that is visited, and what is laid before it.
+struct Stop {
+    p: PatternAt,
+    totals: Totals,
 }
 
 // A row whose bound is the level is searched again and settled.
@@ -29,23 +21,43 @@ fn visit(
     ws: &mut [u32],
     pass: Pass,
     heads: &[u32; 1024],
-    seen: &[bool; 16384],
+    last: &mut [u32; 1024],
     p: PatternAt,
     tiles: &mut [u32],
     totals: Totals,
 ) -> Totals
-    requires { ⌜ Sweeping (pass .job) (bound (pass .job) (now ws) (p .0)) (p .0) (now ws) (now tiles) totals × Indexed pass (now ws) (now heads) (now seen) × Ranges pass × (pass .s ≤ bound (pass .job) (now ws) (p .0)) × (p .0 < pass .job .n) ⌝ }
+    requires { ⌜ Sweeping (pass .job) (bound (pass .job) (now ws) (p .0)) (p .0) (now ws) (now tiles) totals × Indexed pass (now ws) (now heads) × Ranges pass × (pass .s ≤ bound (pass .job) (now ws) (p .0)) × (p .0 < pass .job .n) ⌝ }
     ensures { λ r. ⌜ Sweeping (pass .job) (bound (pass .job) (now (ws .entry)) (p .0)) (p .0 + 1) (now (ws .exit)) (now (tiles .exit)) r ⌝ }
     ensures { λ r. ⌜ Onward (pass .job) (now (ws .entry)) (now (tiles .entry)) totals (now (ws .exit)) (now (tiles .exit)) r ⌝ }
-    ensures { λ r. ⌜ Indexed pass (now (ws .exit)) (now (heads .entry)) (now (seen .entry)) ⌝ }
+    ensures { λ r. ⌜ Falling (pass .job) (now (ws .entry)) (now (ws .exit)) ⌝ }
+    ensures { λ r. ⌜ Indexed pass (now (ws .exit)) (now (heads .entry)) ⌝ }
 {
     let level = sweep::bound_of(ws, pass.job, p);
-    let range = Range {
-        floor: pass.s - 1,
-        cap: level,
-    };
-    let found = rows::row_search(ws, pass, heads, seen, p, range);
+    let found = rows::find(ws, pass, heads, last, p, level);
     sweep::settle(ws, pass.job, level, p, found, tiles, totals)
+}
+
+// The same, and the blocks are set anew whose bounds have fallen.
+fn step(
+    ws: &mut [u32],
+    pass: Pass,
+    heads: &[u32; 1024],
+    last: &mut [u32; 1024],
+    blocks: &mut [u32; 64],
+    tiles: &mut [u32],
+    stop: Stop,
+) -> Totals
+    requires { ⌜ Sweeping (pass .job) (bound (pass .job) (now ws) (stop .p .0)) (stop .p .0) (now ws) (now tiles) (stop .totals) × Covering (pass .job) (now ws) (now blocks) × Indexed pass (now ws) (now heads) × Ranges pass × (pass .s ≤ bound (pass .job) (now ws) (stop .p .0)) × (stop .p .0 < pass .job .n) ⌝ }
+    ensures { λ r. ⌜ Sweeping (pass .job) (bound (pass .job) (now (ws .entry)) (stop .p .0)) (stop .p .0 + 1) (now (ws .exit)) (now (tiles .exit)) r ⌝ }
+    ensures { λ r. ⌜ Onward (pass .job) (now (ws .entry)) (now (tiles .entry)) (stop .totals) (now (ws .exit)) (now (tiles .exit)) r ⌝ }
+    ensures { λ r. ⌜ Covering (pass .job) (now (ws .exit)) (now (blocks .exit)) ⌝ }
+    ensures { λ r. ⌜ Indexed pass (now (ws .exit)) (now (heads .entry)) ⌝ }
+{
+    let level = sweep::bound_of(ws, pass.job, stop.p);
+    let sum = visit(ws, pass, heads, last, stop.p, tiles, stop.totals);
+    let rows = sweep::settled_rows(stop.totals, sum, level);
+    sweep::refresh(ws, pass.job, blocks, stop.p, rows);
+    sum
 }
 
 // Goes through the rows in order and lays every tile of the level's length.
@@ -53,21 +65,24 @@ fn sweep_rows(
     ws: &mut [u32],
     pass: Pass,
     heads: &[u32; 1024],
-    seen: &[bool; 16384],
-    level: usize,
+    last: &mut [u32; 1024],
+    blocks: &mut [u32; 64],
     tiles: &mut [u32],
-    totals: Totals,
+    round: Round,
 ) -> Totals
-    requires { ⌜ Sweeping (pass .job) level 0 (now ws) (now tiles) totals × Indexed pass (now ws) (now heads) (now seen) × Ranges pass × (pass .s ≤ level) ⌝ }
-    ensures { λ r. ⌜ Sweeping (pass .job) level (pass .job .n) (now (ws .exit)) (now (tiles .exit)) r ⌝ }
-    ensures { λ r. ⌜ Onward (pass .job) (now (ws .entry)) (now (tiles .entry)) totals (now (ws .exit)) (now (tiles .exit)) r ⌝ }
-    ensures { λ r. ⌜ Indexed pass (now (ws .exit)) (now (heads .entry)) (now (seen .entry)) ⌝ }
+    requires { ⌜ Sweeping (pass .job) (round .level) 0 (now ws) (now tiles) (round .totals) × Covering (pass .job) (now ws) (now blocks) × Indexed pass (now ws) (now heads) × Ranges pass × (pass .s ≤ round .level) ⌝ }
+    ensures { λ r. ⌜ Sweeping (pass .job) (round .level) (pass .job .n) (now (ws .exit)) (now (tiles .exit)) r ⌝ }
+    ensures { λ r. ⌜ Onward (pass .job) (now (ws .entry)) (now (tiles .entry)) (round .totals) (now (ws .exit)) (now (tiles .exit)) r ⌝ }
+    ensures { λ r. ⌜ Covering (pass .job) (now (ws .exit)) (now (blocks .exit)) ⌝ }
+    ensures { λ r. ⌜ Indexed pass (now (ws .exit)) (now (heads .entry)) ⌝ }
 {
-    let mut sum = totals;
-    let mut p = next_row(ws, pass.job, level, PatternAt(0));
+    let level = round.level;
+    let mut sum = round.totals;
+    let mut p = sweep::next_row(ws, pass.job, blocks, level, PatternAt(0));
     while p.0 < pass.job.n {
-        sum = visit(ws, pass, heads, seen, p, tiles, sum);
-        p = next_row(ws, pass.job, level, PatternAt(p.0 + 1));
+        let stop = Stop { p, totals: sum };
+        sum = step(ws, pass, heads, last, blocks, tiles, stop);
+        p = sweep::next_row(ws, pass.job, blocks, level, PatternAt(p.0 + 1));
     }
     sum
 }
@@ -77,19 +92,20 @@ pub fn lay_levels(
     ws: &mut [u32],
     pass: Pass,
     heads: &[u32; 1024],
-    seen: &[bool; 16384],
-    top: usize,
+    last: &mut [u32; 1024],
+    blocks: &mut [u32; 64],
     tiles: &mut [u32],
     totals: Totals,
 ) -> Totals
-    requires { ⌜ Ready (pass .job) (now ws) (now tiles) totals × Indexed pass (now ws) (now heads) (now seen) × Ranges pass × Greatest (bound (pass .job) (now ws)) (pass .job .n) top ⌝ }
+    requires { ⌜ Ready (pass .job) (now ws) (now tiles) totals × Covering (pass .job) (now ws) (now blocks) × Indexed pass (now ws) (now heads) × Ranges pass ⌝ }
     ensures { λ r. ⌜ Finished (pass .job) (pass .s) (now (ws .entry)) (now (tiles .entry)) totals (now (ws .exit)) (now (tiles .exit)) r ⌝ }
 {
     let mut sum = totals;
-    let mut level = top;
+    let mut level = sweep::top(blocks);
     while pass.s <= level {
-        sum = sweep_rows(ws, pass, heads, seen, level, tiles, sum);
-        level = sweep::greatest_bound(ws, pass.job);
+        let round = Round { level, totals: sum };
+        sum = sweep_rows(ws, pass, heads, last, blocks, tiles, round);
+        level = sweep::lesser(level - 1, sweep::top(blocks));
     }
     sum
 }

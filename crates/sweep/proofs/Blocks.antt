@@ -68,6 +68,10 @@ module _ (j : Job) (ws : List ℕ) (from to b : ℕ) (bs₀ bs : List ℕ) (i : 
       after c l (yes m) = i .done .before c m
       after c l (no m) = i .done .after c (omega (arith, m, i .most))
 
+-- Of some rows.
+pub refreshed-rows : (j : Job) (ws : List ℕ) (p rows least : ℕ) (bs bs' : List ℕ) → least ≡ min rows (j .n - p) → Refreshed j ws (p / 32) ((p + least + 31) / 32) bs bs' → Refreshed j ws (p / 32) ((p + min rows (j .n - p) + 31) / 32) bs bs'
+refreshed-rows j ws p rows least bs bs' e r = rw (← e) r
+
 -- ---- bounds of bounds
 -- A row's bound is one of its block's.
 tops-row : (j : Job) (ws : List ℕ) (q top : ℕ) → q < j .n → Tops j ws (q / 32) top → bound j ws q ≤ top
@@ -75,10 +79,7 @@ tops-row j ws q top h t =
     let at : 32 * (q / 32) + (q - 32 * (q / 32)) ≡ q = omega arith in
     rw at at (t .most (q - 32 * (q / 32)) (omega arith))
 
-pub covering-falls : (j : Job) (ws ws' bs : List ℕ) → Covering j ws bs → Falling j ws ws' → Covering j ws' bs
-covering-falls j ws ws' bs c f = record { most = λ q h. omega (arith, c .most q h, f .falls q h) }
-
-pub covering-refreshed : (j : Job) (ws : List ℕ) (from to : ℕ) (bs bs' : List ℕ) → Covering j ws bs → Refreshed j ws from to bs bs' → Covering j ws bs'
+covering-refreshed : (j : Job) (ws : List ℕ) (from to : ℕ) (bs bs' : List ℕ) → Covering j ws bs → Refreshed j ws from to bs bs' → Covering j ws bs'
 covering-refreshed j ws from to bs bs' c r = record { most = λ q h. most q h (decLt (q / 32) from) (decLt (q / 32) to) }
   where
     most : (q : ℕ) → q < j .n → Dec (q / 32 < from) → Dec (q / 32 < to) → bound j ws q ≤ getD bs' (q / 32) 0
@@ -86,10 +87,14 @@ covering-refreshed j ws from to bs bs' c r = record { most = λ q h. most q h (d
     most q h (no l) (yes m) = tops-row j ws q (getD bs' (q / 32) 0) h (r .anew (q / 32) (omega (arith, l)) m)
     most q h (no l) (no m) = rw (r .after (q / 32) (omega (arith, m))) (c .most q h)
 
+-- After bounds fell, and some blocks were set anew.
+pub covering-after : (j : Job) (ws ws' : List ℕ) (from to : ℕ) (bs bs' : List ℕ) → Covering j ws bs → Falling j ws ws' → Refreshed j ws' from to bs bs' → Covering j ws' bs'
+covering-after j ws ws' from to bs bs' c f = covering-refreshed j ws' from to bs bs' (record { most = λ q h. omega (arith, c .most q h, f .falls q h) })
+
 -- All blocks set anew.
-pub covering-all : (j : Job) (ws bs bs' : List ℕ) → Refreshed j ws 0 ((j .n + 31) / 32) bs bs' → Covering j ws bs'
-covering-all j ws bs bs' r =
-    record { most = λ q h. tops-row j ws q (getD bs' (q / 32) 0) h (r .anew (q / 32) (omega arith) (omega arith)) }
+pub covering-all : (j : Job) (ws : List ℕ) (p : ℕ) (bs bs' : List ℕ) → p ≡ 0 → Refreshed j ws (p / 32) ((p + min (j .n) (j .n - p) + 31) / 32) bs bs' → Covering j ws bs'
+covering-all j ws p bs bs' z r =
+    record { most = λ q h. tops-row j ws q (getD bs' (q / 32) 0) h (r .anew (q / 32) (omega (arith, z)) (omega (arith, z))) }
 
 -- No bound exceeds the greatest of the blocks.
 pub covering-top : (j : Job) (ws bs : List ℕ) (top : ℕ) → Space j ws → Covering j ws bs → Greatest (λ b. getD bs b 0) 64 top → (q : ℕ) → q < j .n → bound j ws q ≤ top

@@ -2,7 +2,7 @@
 -- another.
 -- Assumes nothing.
 use Prim.Native.Nat.{ℕ, _+_, _-_, _≤_, _<_, min}
-use native.Mathlib.Decide.{ℕ-discrete}
+use native.Mathlib.Decide.{decLt}
 use native.Mathlib.Nat.{not-suc-le-zero}
 use native.Mathlib.Omega.{arith}
 use mathlib.Core.Path.{_≡_, refl, _∙_, ap, subst}
@@ -11,6 +11,7 @@ use lib.ListN.{length, getD}
 use Rattle.sweep.specs.Workspace.{state, bound}
 use Rattle.sweep.specs.Row.{Greatest}
 use Rattle.sweep.specs.Blocks.{Covering}
+use Rattle.sweep.specs.First.{First}
 use Rattle.sweep.specs.Progress.{Fits, Bounded, Onward, Sweeping, Ready, Finished}
 use Rattle.sweep.specs.declared.Job.{Job}
 use Rattle.sweep.specs.declared.Totals.{Totals}
@@ -64,43 +65,54 @@ module _ (j : Job) (ws ws' b : List ℕ) (k : Totals) (same : state j ws' ≡ st
         short = f .short;
       }
 
--- ---- a row
-module _ (j : Job) (level p : ℕ) (ws b : List ℕ) (k : Totals) (s : Sweeping j level p ws b k) (inside : p < j .n) where
-  -- A row whose bound is not the level is below it.
-  pub row-below : (r : ℕ) → r ≡ bound j ws p → (r ≡ level → ⊥) → Sweeping j level (p + 1) ws b k
-  row-below r e d =
-      record {
-        fits = s .fits;
-        bounded = record { upper = s .bounded .upper; capped = s .bounded .capped; passed = λ q h. passed q h (ℕ-discrete q p) };
-        long = s .long;
-        within = omega arith;
-      }
-    where
-      passed : (q : ℕ) → q < p + 1 → Dec (q ≡ p) → bound j ws q < level
-      passed q h (yes q≡p) = rw q≡p (omega (arith, s .bounded .capped p inside, e, d))
-      passed q h (no n) = s .bounded .passed q (omega (arith, n))
+-- ---- a sweep, from one row whose bound is the level to the next
+-- The rows passed over are below the level.
+skip : (j : Job) (level from r : ℕ) (ws b : List ℕ) (k : Totals) → Sweeping j level from ws b k → First (λ q. bound j ws q ≡ level) from (j .n) r → Sweeping j level r ws b k
+skip j level from r ws b k s x =
+    record {
+      fits = s .fits;
+      bounded = record { upper = s .bounded .upper; capped = s .bounded .capped; passed = λ q h. passed q h (decLt q from) };
+      long = s .long;
+      within = x .within;
+    }
+  where
+    passed : (q : ℕ) → q < r → Dec (q < from) → bound j ws q < level
+    passed q h (yes l) = s .bounded .passed q l
+    passed q h (no l) = omega (arith, s .bounded .capped q (omega (arith, x .within)), x .none q (omega (arith, l)) h)
 
--- ---- a sweep
-pub record Swept (j : Job) (level : ℕ) (ws₀ b₀ : List ℕ) (k₀ : Totals) (ws b : List ℕ) (k : Totals) (p : ℕ) : Type 0 where
+pub record Swept (j : Job) (level : ℕ) (ws₀ b₀ : List ℕ) (k₀ : Totals) (ws b : List ℕ) (k : Totals) (bs : List ℕ) (p : ℕ) : Type 0 where
   pub sweeping : Sweeping j level p ws b k
   pub onward : Onward j ws₀ b₀ k₀ ws b k
+  pub covering : Covering j ws bs
+  pub full : p < j .n → bound j ws p ≡ level
   pub same-room : length ws ≡ length ws₀
   pub same-tiles : length b ≡ length b₀
 
-pub swept-none : (j : Job) (level : ℕ) (ws b : List ℕ) (k : Totals) → Sweeping j level 0 ws b k → Swept j level ws b k ws b k 0
-swept-none j level ws b k s = record { sweeping = s; onward = onward-none j ws b k; same-room = refl; same-tiles = refl }
+pub swept-none : (j : Job) (level : ℕ) (ws b : List ℕ) (k : Totals) (bs : List ℕ) (p : ℕ) → Sweeping j level 0 ws b k → Covering j ws bs → First (λ q. bound j ws q ≡ level) 0 (j .n) p → Swept j level ws b k ws b k bs p
+swept-none j level ws b k bs p s c y =
+    record { sweeping = skip j level 0 p ws b k s y; onward = onward-none j ws b k; covering = c; full = y .stops; same-room = refl; same-tiles = refl }
 
-pub swept-more : (j : Job) (level : ℕ) (ws₀ b₀ ws b ws' b' : List ℕ) (k₀ k k' : Totals) (p : ℕ) → Swept j level ws₀ b₀ k₀ ws b k p → Sweeping j level (p + 1) ws' b' k' → Onward j ws b k ws' b' k' → length ws' ≡ length ws → length b' ≡ length b → Swept j level ws₀ b₀ k₀ ws' b' k' (p + 1)
-swept-more j level ws₀ b₀ ws b ws' b' k₀ k k' p s x y v w =
-    record {
-      sweeping = x;
-      onward = onward-more j ws₀ b₀ ws b ws' b' k₀ k k' (s .onward) y;
-      same-room = v ∙ s .same-room;
-      same-tiles = w ∙ s .same-tiles;
-    }
+module _ (j : Job) (level : ℕ) (ws₀ b₀ : List ℕ) (k₀ : Totals) (ws b : List ℕ) (k : Totals) (bs : List ℕ) (p : ℕ) (s : Swept j level ws₀ b₀ k₀ ws b k bs p) where
+  -- The level is the bound of the row that is visited.
+  pub swept-row : p < j .n → Sweeping j (bound j ws p) p ws b k
+  swept-row h = rw (s .full h) (s .sweeping)
 
-pub swept-all : (j : Job) (level : ℕ) (ws b : List ℕ) (k : Totals) (p : ℕ) → Sweeping j level p ws b k → j .n ≤ p → Sweeping j level (j .n) ws b k
-swept-all j level ws b k p s h = let e : p ≡ j .n = omega (arith, s .within) in rw e at s
+  pub swept-long : (n : ℕ) → n ≤ level → p < j .n → n ≤ bound j ws p
+  swept-long n l h = omega (arith, s .full h)
+
+  pub swept-more : p < j .n → (ws' b' : List ℕ) (k' : Totals) (bs' : List ℕ) (p' : ℕ) → Sweeping j (bound j ws p) (p + 1) ws' b' k' → Onward j ws b k ws' b' k' → Covering j ws' bs' → length ws' ≡ length ws → length b' ≡ length b → First (λ q. bound j ws' q ≡ level) (p + 1) (j .n) p' → Swept j level ws₀ b₀ k₀ ws' b' k' bs' p'
+  swept-more h ws' b' k' bs' p' w o c v u y =
+      record {
+        sweeping = skip j level (p + 1) p' ws' b' k' (rw (s .full h) at w) y;
+        onward = onward-more j ws₀ b₀ ws b ws' b' k₀ k k' (s .onward) o;
+        covering = c;
+        full = y .stops;
+        same-room = v ∙ s .same-room;
+        same-tiles = u ∙ s .same-tiles;
+      }
+
+  pub swept-all : j .n ≤ p → Sweeping j level (j .n) ws b k
+  swept-all h = let e : p ≡ j .n = omega (arith, s .sweeping .within) in rw e at (s .sweeping)
 
 -- ---- the levels, down to runs of n words
 pub record Level (j : Job) (n : ℕ) (ws₀ b₀ : List ℕ) (k₀ : Totals) (ws b : List ℕ) (k : Totals) (bs : List ℕ) (level : ℕ) : Type 0 where

@@ -29,3 +29,7 @@ settledTiles j level p f k b =
 
 abbrev pub settledTotals : ℕ → Found → Totals → Totals
 settledTotals level f k = settle-by (eqb (f .len) level) (record { count = k .count + 1; covered = k .covered + level }) k
+
+-- How many rows from that one on have a new bound.
+unfoldable pub settledRows : Totals → Totals → ℕ → ℕ
+settledRows before after level = elim (eqb (before .count) (after .count)) [ true ↦ 1 | false ↦ level ]

@@ -11,7 +11,7 @@ ghost use Rattle.sweep.specs.Workspace.{Space, state, boundsFrom, bound,
 ghost use Rattle.sweep.specs.Row.{better, Greatest, boundBy};
 ghost use Rattle.sweep.specs.First.{First};
 ghost use Rattle.sweep.specs.Blocks.{BlockSet, Refreshed, Covering, rowAfter};
-ghost use Rattle.sweep.specs.Settled.{settledWords, settledTiles, settledTotals};
+ghost use Rattle.sweep.specs.Settled.{settledWords, settledTiles, settledTotals, settledRows};
 ghost use Rattle.sweep.specs.Progress.{Searched, Sweeping, Onward, Falling};
 
 // What a comparison works on: the lengths of pattern and text, the minimum, and whether the first sequence is the pattern.
@@ -32,6 +32,12 @@ pub struct Found {
 pub struct Totals {
     pub count: usize,
     pub covered: usize,
+}
+
+// A round of the sweep: the level, and what is laid before it.
+pub struct Round {
+    pub level: usize,
+    pub totals: Totals,
 }
 
 // The longer of what was found and a run of len words at t; of equal ones, what was found.
@@ -133,7 +139,7 @@ fn set_block(ws: &[u32], job: Job, blocks: &mut [u32; 64], b: usize)
 }
 
 // Sets the greatest bounds of the blocks from one up to another anew.
-pub fn refresh(ws: &[u32], job: Job, blocks: &mut [u32; 64], from: usize, to: usize)
+fn set_blocks(ws: &[u32], job: Job, blocks: &mut [u32; 64], from: usize, to: usize)
     requires { ⌜ Space job (now ws) × (to ≤ (job .n + 31) / 32) ⌝ }
     ensures { λ r. ⌜ Refreshed job (now (ws .entry)) from to (now (blocks .entry)) (now (blocks .exit)) ⌝ }
 {
@@ -142,6 +148,26 @@ pub fn refresh(ws: &[u32], job: Job, blocks: &mut [u32; 64], from: usize, to: us
         set_block(ws, job, blocks, b);
         b += 1;
     }
+}
+
+// Sets the greatest bounds of the blocks of some rows from p on anew.
+pub fn refresh(ws: &[u32], job: Job, blocks: &mut [u32; 64], p: PatternAt, rows: usize)
+    requires { ⌜ Space job (now ws) × (p .0 ≤ job .n) ⌝ }
+    ensures { λ r. ⌜ Refreshed job (now (ws .entry)) (p .0 / 32) ((p .0 + min rows (job .n - p .0) + 31) / 32) (now (blocks .entry)) (now (blocks .exit)) ⌝ }
+{
+    let from = p.0;
+    let to = from + lesser(rows, job.n - from);
+    set_blocks(ws, job, blocks, from / 32, (to + 31) / 32);
+}
+
+// How many rows have a new bound after one was settled: those of the tile that was laid, or the row itself.
+pub fn settled_rows(before: Totals, after: Totals, level: usize) -> usize
+    ensures { λ r. ⌜ r ≡ settledRows before after level ⌝ }
+{
+    if before.count == after.count {
+        return 1;
+    }
+    level
 }
 
 // The greatest of all blocks.

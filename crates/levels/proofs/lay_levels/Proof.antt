@@ -1,28 +1,36 @@
--- `levels::lay_levels` meets its contract: at the head of each turn the level is the greatest bound, and a sweep leaves every bound below it.
+-- `levels::lay_levels` meets its contract: at the head of each turn no bound exceeds the level, and a sweep leaves every bound below it.
 -- Assumes nothing.
-use Rattle.sweep.proofs.Turn.{level-less}
-use Rattle.levels.proofs.Pass.{Lowering, lowering-none, lowering-sweep, lowering-more, lowering-done}
+use Rattle.levels.proofs.Pass.{Lowering, lowering-none, lowering-sweep, lowering-more, lowering-less, lowering-done}
 use borrow.Author.Needs.{needs}
 use Rattle.levels.proofs.lay_levels.Statement.{statement}
 use Rattle.levels.proofs.lay_levels.Tie as tie
 
 abbrev Inv-loop : tie.InvT-loop
-Inv-loop ws₀ pass heads seen top tiles₀ sum₀ level₀ ws tiles sum level = Lowering pass heads seen ws₀ tiles₀ sum₀ ws tiles sum level
+Inv-loop ws₀ pass heads last₀ blocks₀ tiles₀ sum₀ level₀ ws last blocks tiles sum level = Lowering pass heads ws₀ tiles₀ sum₀ ws tiles sum blocks level
 
 abbrev μ-loop : tie.MeasureT-loop
-μ-loop ws₀ pass heads seen top tiles₀ sum₀ level₀ ws tiles sum level = level
+μ-loop ws₀ pass heads last₀ blocks₀ tiles₀ sum₀ level₀ ws last blocks tiles sum level = level
+
+top-requires : tie.Need-top-requires Inv-loop μ-loop
+top-requires c κs = search needs
 
 loop-holds : tie.Need-loop-holds Inv-loop μ-loop
 loop-holds c = search lowering-none
 
 sweep-rows-requires : tie.Need-sweep-rows-requires Inv-loop μ-loop
-sweep-rows-requires c κs = (search (lowering-sweep, needs), search needs, search needs, search needs)
+sweep-rows-requires c κs = (search lowering-sweep, search needs, search needs, search needs, search needs)
 
-greatest-bound-requires : tie.Need-greatest-bound-requires Inv-loop μ-loop
-greatest-bound-requires c κs = search needs
+sub-lesser : tie.Need-sub-lesser Inv-loop μ-loop
+sub-lesser c = search needs
+
+top-requires-2 : tie.Need-top-requires-2 Inv-loop μ-loop
+top-requires-2 c κs = search needs
+
+lesser-requires : tie.Need-lesser-requires Inv-loop μ-loop
+lesser-requires c κs = search needs
 
 loop-less : tie.Need-loop-less Inv-loop μ-loop
-loop-less c = search level-less
+loop-less c = search lowering-less
 
 loop-again : tie.Need-loop-again Inv-loop μ-loop
 loop-again c = search lowering-more
@@ -42,9 +50,12 @@ lay-levels-spec =
     (tie.spec
     Inv-loop
     μ-loop
+    top-requires
     loop-holds
     sweep-rows-requires
-    greatest-bound-requires
+    sub-lesser
+    top-requires-2
+    lesser-requires
     loop-less
     loop-again
     same-length

@@ -9,10 +9,10 @@ use Rattle.levels.proofs.sweep_rows.Statement.{statement}
 use Rattle.levels.proofs.sweep_rows.Tie as tie
 
 abbrev Inv-loop : tie.InvT-loop
-Inv-loop ws₀ pass heads seen level tiles₀ sum₀ p₀ ws tiles sum p = Turning pass heads seen level ws₀ tiles₀ sum₀ ws tiles sum (p .0)
+Inv-loop ws₀ pass heads last₀ blocks₀ tiles₀ level sum₀ p₀ ws last blocks tiles sum p = Turning pass heads level ws₀ tiles₀ sum₀ ws tiles sum blocks (p .0)
 
 abbrev μ-loop : tie.MeasureT-loop
-μ-loop ws₀ pass heads seen level tiles₀ sum₀ p₀ ws tiles sum p = pass .job .n - p .0
+μ-loop ws₀ pass heads last₀ blocks₀ tiles₀ level sum₀ p₀ ws last blocks tiles sum p = pass .job .n - p .0
 
 next-row-requires : tie.Need-next-row-requires Inv-loop μ-loop
 next-row-requires c κs = search needs
@@ -20,11 +20,11 @@ next-row-requires c κs = search needs
 loop-holds : tie.Need-loop-holds Inv-loop μ-loop
 loop-holds c = search turning-none
 
-visit-requires : tie.Need-visit-requires Inv-loop μ-loop
-visit-requires c κs = (search turning-row, search needs, search needs, search turning-long, search needs)
+step-requires : tie.Need-step-requires Inv-loop μ-loop
+step-requires c κs = (search turning-row, search needs, search needs, search needs, search turning-long, search needs)
 
-add-t20 : tie.Need-add-t20 Inv-loop μ-loop
-add-t20 c = search needs
+add-t26 : tie.Need-add-t26 Inv-loop μ-loop
+add-t26 c = search needs
 
 next-row-requires-2 : tie.Need-next-row-requires-2 Inv-loop μ-loop
 next-row-requires-2 c κs = search needs
@@ -42,7 +42,7 @@ same-length-2 : tie.Need-same-length-2 Inv-loop μ-loop
 same-length-2 c = search needs
 
 returns : tie.Need-returns Inv-loop μ-loop
-returns c = (search swept-all, (search needs, search needs))
+returns c = (search swept-all, (search needs, (search needs, search needs)))
 
 pub sweep-rows-spec : {M : Type 1} → statement M
 sweep-rows-spec =
@@ -52,8 +52,8 @@ sweep-rows-spec =
     μ-loop
     next-row-requires
     loop-holds
-    visit-requires
-    add-t20
+    step-requires
+    add-t26
     next-row-requires-2
     loop-less
     loop-again

@@ -1,36 +1,29 @@
--- `sweep::refresh` meets its contract: at the head of each turn the blocks before b are set anew.
+-- `sweep::refresh` meets its contract: the blocks of the rows are those from the first row up to the last.
 -- Assumes nothing.
-use Prim.Native.Nat.{_-_}
-use Rattle.sweep.proofs.Blocks.{Refreshing, refreshing-none, refreshing-more, refreshing-all}
+use Rattle.sweep.proofs.Blocks.{refreshed-rows}
 use borrow.Author.Needs.{needs}
 use Rattle.sweep.proofs.refresh.Statement.{statement}
 use Rattle.sweep.proofs.refresh.Tie as tie
 
-abbrev Inv-loop : tie.InvT-loop
-Inv-loop ws job blocks₀ from to b₀ blocks b = Refreshing job ws from to b blocks₀ blocks
+sub-lesser : tie.Need-sub-lesser
+sub-lesser c = search needs
 
-abbrev μ-loop : tie.MeasureT-loop
-μ-loop ws job blocks₀ from to b₀ blocks b = to - b
+lesser-requires : tie.Need-lesser-requires
+lesser-requires c κs = search needs
 
-loop-holds : tie.Need-loop-holds Inv-loop μ-loop
-loop-holds c = search refreshing-none
+add-to : tie.Need-add-to
+add-to c = search needs
 
-set-block-requires : tie.Need-set-block-requires Inv-loop μ-loop
-set-block-requires c κs = search needs
+add-set-blocks : tie.Need-add-set-blocks
+add-set-blocks c = search needs
 
-add-b : tie.Need-add-b Inv-loop μ-loop
-add-b c = search needs
+set-blocks-requires : tie.Need-set-blocks-requires
+set-blocks-requires c κs = search needs
 
-loop-less : tie.Need-loop-less Inv-loop μ-loop
-loop-less c = search needs
-
-loop-again : tie.Need-loop-again Inv-loop μ-loop
-loop-again c = search refreshing-more
-
-returns : tie.Need-returns Inv-loop μ-loop
-returns c = search refreshing-all
+returns : tie.Need-returns
+returns c = search refreshed-rows
 
 pub refresh-spec : {M : Type 1} → statement M
 refresh-spec =
     tie.close
-    (tie.spec Inv-loop μ-loop loop-holds set-block-requires add-b loop-less loop-again returns)
+    (tie.spec sub-lesser lesser-requires add-to add-set-blocks set-blocks-requires returns)
