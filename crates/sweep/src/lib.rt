@@ -120,7 +120,7 @@ fn greatest_bound(ws: &[u32], job: Job, from: usize, to: usize) -> u32
 }
 
 // Stores a word.
-fn store(words: &mut [u32], at: usize, value: u32)
+pub fn store(words: &mut [u32], at: usize, value: u32)
     requires { ⌜ at < length (now words) ⌝ }
     ensures { λ r. ⌜ (now (words .exit) ≡ set (now (words .entry)) at value) × (getD (now (words .exit)) at 0 ≡ value) ⌝ }
 {

@@ -1,0 +1,3 @@
+pub mod Rests
+pub mod Stretches
+pub mod Choice
