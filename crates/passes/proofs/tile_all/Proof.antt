@@ -1,18 +1,21 @@
 -- `passes::tile_all` meets its contract: what the first pass and the later ones lay follows one another.
 -- Assumes nothing.
-use Rattle.passes.proofs.Passes.{first-fits, first-ranges, first-short, all-passes}
+use Rattle.passes.proofs.Passes.{first-fits, first-ranges, all-passes}
 use borrow.Author.Needs.{needs}
 use Rattle.passes.proofs.tile_all.Statement.{statement}
 use Rattle.passes.proofs.tile_all.Tie as tie
 
-first-pass-requires : tie.Need-first-pass-requires
-first-pass-requires c κs = search needs
+first-length-requires : tie.Need-first-length-requires
+first-length-requires c κs = search needs
 
 at-length-requires : tie.Need-at-length-requires
 at-length-requires c κs = search needs
 
+one-pass-requires : tie.Need-one-pass-requires
+one-pass-requires c κs = (search first-fits, search first-ranges)
+
 later-passes-requires : tie.Need-later-passes-requires
-later-passes-requires c κs = (search first-fits, search first-ranges, search first-short)
+later-passes-requires c κs = (search needs, search first-ranges, search needs)
 
 same-length : tie.Need-same-length
 same-length c = search needs
@@ -27,8 +30,9 @@ pub tile-all-spec : {M : Type 1} → statement M
 tile-all-spec =
     tie.close
     (tie.spec
-    first-pass-requires
+    first-length-requires
     at-length-requires
+    one-pass-requires
     later-passes-requires
     same-length
     same-length-2
