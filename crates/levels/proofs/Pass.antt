@@ -14,9 +14,9 @@ use Rattle.tiling.specs.Tiling.{runAt}
 use Rattle.sweep.specs.Workspace.{state, boundsFrom, bound, laid}
 use Rattle.sweep.specs.Row.{Greatest}
 use Rattle.sweep.specs.First.{First}
-use Rattle.sweep.specs.Blocks.{Refreshed, Covering}
+use Rattle.sweep.specs.Blocks.{Covering}
 use Rattle.sweep.specs.Settled.{settle-by, settledWords}
-use Rattle.sweep.specs.Progress.{Falling, Onward, Sweeping, Searched, Ready, Finished}
+use Rattle.sweep.specs.Progress.{UpperFrom, Onward, Sweeping, Searched, Ready, Finished}
 use Rattle.sweep.specs.declared.Found.{Found}
 use Rattle.sweep.specs.declared.Job.{Job}
 use Rattle.sweep.specs.declared.Totals.{Totals}
@@ -25,7 +25,7 @@ use Rattle.sweep.proofs.Turn.{Swept, swept-none, swept-row, swept-long, swept-m
 use Rattle.index.specs.Indexed.{Ranges, Indexed}
 use Rattle.index.specs.declared.Pass.{Pass}
 use Rattle.index.proofs.Kept.{indexed-kept, kept-set, kept-laid}
-use Rattle.rows.specs.Reached.{UpperFrom, Looked}
+use Rattle.rows.specs.Reached.{Looked}
 
 -- ---- a row
 -- The level is the row's bound.

@@ -1,95 +1,124 @@
--- The bounds, filled row by row: a row's search finds the length of its longest run, or its floor where that is greater; and a store among
--- the bounds leaves the sequences as they are.
+-- The bounds, from the last row to the first: what the row that was searched last tells, what is taken over, and what a search finds. Where a row
+-- is searched for the level, a run so long is the first of the longest.
 -- Assumes nothing.
-use Prim.Native.Nat.{ℕ, _+_, _-_, _≤_, _<_, max}
-use native.Mathlib.Nat.{not-suc-le-zero}
-use native.Mathlib.Decide.{decLt, ℕ-discrete}
+use Prim.Native.Nat.{ℕ, _+_, _-_, _/_, _≤_, _<_}
+use native.Mathlib.Decide.{decLt}
 use native.Mathlib.Omega.{arith}
-use mathlib.Core.Path.{_≡_, refl, sym, _∙_, ap, subst}
+use mathlib.Core.Path.{_≡_, refl, sym, _∙_}
+use mathlib.Core.Bool.{Bool, true, false}
 use mathlib.Core.List.{List}
-use lib.ListN.{length, drop, set, length-set, length-drop}
-use lib.Seq.{getD-set-same, getD-set-other}
-use Rattle.tiling.specs.Tiling.{State, rowLengthBy, rowLength, bestText}
-use Rattle.tiling.proofs.Best.{row-most}
-use Rattle.sweep.specs.Workspace.{Space, state, boundsFrom, bound}
-use Rattle.sweep.specs.Row.{Row}
-use Rattle.sweep.specs.Progress.{Fits, Ready, Finished}
+use borrow.Author.Tests.{ltb-true, le-leb, lt-leb, lt-ltb}
+use lib.Dec.{ltb}
+use lib.ListN.{length, drop, getD, length-drop}
+use Rattle.symbol.specs.Word.{equalCalls}
+use Rattle.symbol.proofs.Word.{and-left}
+use Rattle.tiling.specs.Tiling.{State, runAt}
+use Rattle.tiling.proofs.Run.{run-within}
+use Rattle.tile.specs.declared.TextAt.{TextAt}
+use Rattle.sweep.specs.Workspace.{Space, state, bound}
+use Rattle.sweep.specs.Row.{Row, boundBy}
+use Rattle.sweep.specs.Progress.{Fits, Searched, UpperFrom, RowBound, Filled, Ready, Finished, Sweeping}
 use Rattle.sweep.specs.declared.Job.{Job}
 use Rattle.sweep.specs.declared.Found.{Found}
 use Rattle.sweep.specs.declared.Totals.{Totals}
+use Rattle.sweep.proofs.Told.{bound-tells, bound-told}
 use Rattle.sweep.proofs.Row.{row-small}
 use Rattle.sweep.proofs.Turn.{unmoved-fits, unmoved-finished}
-use Rattle.sweep.proofs.Workspace.{state-set, space-kept, pattern-length}
-use Rattle.plain.specs.Bounds.{LongestRuns}
+use Rattle.sweep.proofs.Workspace.{pattern-length}
+use Rattle.plain.specs.Bounds.{Capped, goesOn}
 
--- What a row's search found.
-row-found : (s : State) (p floor : ℕ) (f : Found) → Row (drop p (s .pattern)) (s .text) floor f → f .len ≡ max floor (rowLength s p)
-unfolding rowLengthBy
-row-found s p floor f r = go (decLt floor (f .len))
-  where
-    go : Dec (floor < f .len) → f .len ≡ max floor (rowLength s p)
-    go (yes l) = omega (arith, r .long l, row-most s p (f .t .0), r .most (bestText s p))
-    go (no l) = omega (arith, r .least, r .most (bestText s p))
+-- ---- a run that goes on
+module _ (j : Job) (ws : List ℕ) (p t : ℕ) where
+  pub goes-first : t ≡ 0 → false ≡ goesOn j ws p t
+  unfolding goesOn
+  goes-first e = rw (goesOn, e) refl
 
-pub record Filling (j : Job) (ws₀ ws : List ℕ) (p : ℕ) : Type 0 where
-  pub within : p ≤ j .n
-  pub least : 1 ≤ j .minimum
-  pub most : j .minimum ≤ 256
-  pub space : Space j ws
-  pub same-room : length ws ≡ length ws₀
-  pub same : state j ws ≡ state j ws₀
-  pub exact : (q : ℕ) → q < p → bound j ws q ≡ max (j .minimum - 1) (rowLength (state j ws₀) q)
+  module _ (some : t ≡ 0 → ⊥) where
+    positive : ltb 0 t ≡ true
+    positive = lt-ltb 0 t (omega (arith, some))
 
-pub filling-none : (j : Job) (ws : List ℕ) → Space j ws → 1 ≤ j .minimum → j .minimum ≤ 256 → Filling j ws ws 0
-filling-none j ws s h k =
-    record {
-      within = omega arith;
-      least = h;
-      most = k;
-      space = s;
-      same-room = refl;
-      same = refl;
-      exact = λ q l. absurd (not-suc-le-zero l);
-    }
+    pub goes-past : j .m < t → false ≡ goesOn j ws p t
+    unfolding goesOn
+    goes-past h = rw (goesOn, positive, lt-leb t (j .m) h) refl
 
-module _ (j : Job) (ws₀ ws : List ℕ) (p : ℕ) (f : Found) (s : Filling j ws₀ ws p) (inside : p < j .n) (r : Row (drop p (state j ws .pattern)) (state j ws .text) (j .minimum - 1) f) where
-  -- What was found fits a bound.
-  pub found-fits : f .len ≤ 2048
-  found-fits =
-      row-small (drop p (state j ws .pattern)) (state j ws .text) (j .minimum - 1) 2048 f r (omega (arith, s .most))
-      (omega (arith, length-drop p (state j ws .pattern), pattern-length j ws (s .space), s .space .short-pattern))
+    pub goes-by : t ≤ j .m → (r : Bool) → r ≡ equalCalls (getD ws p 0) (getD ws (j .n + t - 1) 0) → r ≡ goesOn j ws p t
+    unfolding goesOn
+    goes-by inside r w = w ∙ rw (goesOn, positive, le-leb t (j .m) inside) refl
 
-  pub filling-more : (ws' : List ℕ) → ws' ≡ set ws (boundsFrom j + p) (f .len) → Filling j ws₀ ws' (p + 1)
-  filling-more ws' e =
-      subst (λ x. Filling j ws₀ x (p + 1)) (sym e)
-      (record {
-        within = omega arith;
-        least = s .least;
-        most = s .most;
-        space = space-kept j ws (set ws (boundsFrom j + p) (f .len)) (length-set ws (boundsFrom j + p) (f .len)) (state-set j ws p (f .len)) (s .space);
-        same-room = length-set ws (boundsFrom j + p) (f .len) ∙ s .same-room;
-        same = state-set j ws p (f .len) ∙ s .same;
-        exact = λ q h. exact q h (ℕ-discrete q p);
-      })
+  pub goes-back : (b : Bool) → b ≡ goesOn j ws p t → b ≡ true → 1 ≤ t
+  unfolding goesOn
+  goes-back b e z = omega (arith, ltb-true 0 t (and-left (ltb 0 t) _ (sym e ∙ z)))
+
+-- ---- one row
+module _ (j : Job) (ws : List ℕ) (p cap : ℕ) (space : Space j ws) where
+  pub bound-caps : RowBound j (state j ws) p cap → Capped (state j ws) p cap
+  bound-caps c = c .most
+
+  pub bound-known : (q r : ℕ) → RowBound j (state j ws) p cap → UpperFrom j ws (p + 1) → r ≡ boundBy j ws p q (p + 1) cap → RowBound j (state j ws) p r
+  bound-known q r c upper e = bound-told j ws p cap r c (bound-tells j ws p q cap space (p + 1) r upper e)
+
+  pub bound-found : (floor : ℕ) (f : Found) → floor ≤ cap → RowBound j (state j ws) p cap → Row (drop p (state j ws .pattern)) (state j ws .text) floor f → RowBound j (state j ws) p (f .len)
+  bound-found floor f h c r = record { most = r .most; within = within (decLt floor (f .len)) }
     where
-      here : f .len ≡ max (j .minimum - 1) (rowLength (state j ws₀) p)
-      here = row-found (state j ws) p (j .minimum - 1) f r ∙ ap (λ u. max (j .minimum - 1) (rowLength u p)) (s .same)
+      within : Dec (floor < f .len) → p + f .len ≤ j .n
+      within (yes l) = omega (arith, r .long l, c .most (f .t .0), c .within)
+      within (no l) = omega (arith, r .least, c .within, l)
 
-      exact : (q : ℕ) → q < p + 1 → Dec (q ≡ p) → bound j (set ws (boundsFrom j + p) (f .len)) q ≡ max (j .minimum - 1) (rowLength (state j ws₀) q)
-      exact q h (yes k) = rw k (getD-set-same ws (boundsFrom j + p) (f .len) 0 (omega (arith, s .space .roomy)) ∙ here)
-      exact q h (no d) = getD-set-other ws (boundsFrom j + p) (boundsFrom j + q) (f .len) 0 (λ k. d (omega arith)) ∙ s .exact q (omega (arith, d))
+-- Half the minimum.
+pub half-low : (minimum : ℕ) → minimum ≤ 256 → (minimum - 1) / 2 ≤ 2048
+half-low minimum h = omega arith
 
-pub filled : (j : Job) (ws₀ ws : List ℕ) (p : ℕ) → Filling j ws₀ ws p → j .n ≤ p → LongestRuns j ws₀ ws
-filled j ws₀ ws p s h = record { same = s .same; space = s .space; exact = λ q l. s .exact q (omega (arith, h)) }
+pub half-below : (minimum cap : ℕ) → minimum ≤ cap → (minimum - 1) / 2 ≤ cap
+half-below minimum cap h = omega arith
 
-module _ (j : Job) (ws ws' b : List ℕ) (k : Totals) (r : LongestRuns j ws ws') where
-  -- No run of a row exceeds its longest, so the tiles can be laid.
-  pub filled-ready : Fits j ws b k → length ws' ≡ length ws → Ready j ws' b k
-  filled-ready fits same =
+-- ---- a row of the level
+module _ (j : Job) (ws : List ℕ) (p cap : ℕ) (space : Space j ws) (inside : p < j .n) (full : cap ≡ bound j ws p) (upper : UpperFrom j ws 0) where
+  pub level-caps : Capped (state j ws) p cap
+  level-caps u = omega (arith, upper p u (omega arith) inside, full)
+
+  pub found-told : (q r : ℕ) (a : TextAt) → r ≡ boundBy j ws p q 0 cap → r < cap → Searched j ws cap p (record { t = a; len = r })
+  found-told q r a e h =
+      let t = bound-tells j ws p q cap space 0 r upper e in
       record {
-        fits = unmoved-fits j ws ws' b k (r .same) same fits;
-        upper = λ q t l. omega (arith, r .exact q l, row-most (state j ws') q t, ap (λ u. rowLength u q) (r .same));
+        small = omega (arith, t .inside h, space .short-pattern);
+        within = omega arith;
+        most = t .most h;
+        long = λ z. absurd (omega arith);
+        first = λ z. absurd (omega arith);
       }
+
+  pub found-row : 1 ≤ j .minimum → j .minimum ≤ 256 → j .minimum ≤ cap → (f : Found) → Row (drop p (state j ws .pattern)) (state j ws .text) (j .minimum - 1) f → Searched j ws cap p f
+  found-row least most long f r =
+      record {
+        small =
+            row-small (drop p (state j ws .pattern)) (state j ws .text) (j .minimum - 1) 2048 f r (omega arith)
+            (omega (arith, length-drop p (state j ws .pattern), pattern-length j ws space, space .short-pattern));
+        within = within (decLt (j .minimum - 1) (f .len));
+        most = r .most;
+        long = λ z. r .long (omega (arith, z)) ∙ z;
+        first = λ z u l. omega (arith, r .first (omega (arith, z)) u l, z);
+      }
+    where
+      within : Dec (j .minimum - 1 < f .len) → f .len ≤ cap
+      within (yes l) = omega (arith, r .long l, level-caps (f .t .0))
+      within (no l) = omega (arith, l)
+
+pub sweeping-upper : (j : Job) (level p : ℕ) (ws b : List ℕ) (k : Totals) → Sweeping j level p ws b k → UpperFrom j ws 0
+sweeping-upper j level p ws b k w q t h l = w .bounded .upper q t l
+
+pub sweeping-least : (j : Job) (level p : ℕ) (ws b : List ℕ) (k : Totals) → level ≡ bound j ws p → Sweeping j (bound j ws p) p ws b k → j .minimum ≤ level
+sweeping-least j level p ws b k e w = omega (arith, w .long, e)
+
+pub sweeping-entered : (j : Job) (level p : ℕ) (ws b : List ℕ) (k : Totals) → level ≡ bound j ws p → Sweeping j (bound j ws p) p ws b k → Sweeping j level p ws b k
+sweeping-entered j level p ws b k e w = rw e w
+
+pub sweeping-left : (j : Job) (level from p : ℕ) (ws ws' b' : List ℕ) (k' : Totals) → level ≡ bound j ws p → Sweeping j level from ws' b' k' → Sweeping j (bound j ws p) from ws' b' k'
+sweeping-left j level from p ws ws' b' k' e w = rw e at w
+
+-- ---- all of them
+module _ (j : Job) (ws ws' b : List ℕ) (k : Totals) (r : Filled j ws ws') where
+  pub filled-ready : Fits j ws b k → length ws' ≡ length ws → Ready j ws' b k
+  filled-ready fits same = record { fits = unmoved-fits j ws ws' b k (r .same) same fits; upper = r .upper }
 
   -- What is laid from there is laid from the start.
   pub filled-finished : (n : ℕ) (ws₂ b₂ : List ℕ) (k₂ : Totals) → Finished j n ws' b k ws₂ b₂ k₂ → Finished j n ws b k ws₂ b₂ k₂

@@ -1,14 +1,17 @@
--- The bounds that the plain engine begins with. No reader of the engine's contract needs it.
-use Prim.Native.Nat.{ℕ, _-_, _<_, max}
-use mathlib.Core.Path.{_≡_}
+-- The bounds that the plain engine begins with. No reader of the engine's contract needs these.
+use Prim.Native.Nat.{ℕ, _+_, _-_, _≤_}
+use mathlib.Core.Bool.{Bool, _&&_}
 use mathlib.Core.List.{List}
-use Rattle.tiling.specs.Tiling.{rowLength}
-use Rattle.sweep.specs.Workspace.{Space, state, bound}
+use lib.Dec.{leb, ltb}
+use lib.ListN.{getD}
+use Rattle.symbol.specs.Word.{equalCalls}
+use Rattle.tiling.specs.Tiling.{State, runAt}
 use Rattle.sweep.specs.declared.Job.{Job}
 
--- The bound of each row is the length of its longest run, or one below the minimum where that is greater; the sequences are as they
--- were.
-pub record LongestRuns (j : Job) (ws ws' : List ℕ) : Type 0 where
-  pub same : state j ws' ≡ state j ws
-  pub space : Space j ws'
-  pub exact : (p : ℕ) → p < j .n → bound j ws' p ≡ max (j .minimum - 1) (rowLength (state j ws) p)
+-- No run of the row at p exceeds cap.
+abbrev pub Capped : State → ℕ → ℕ → Type 0
+Capped s p cap = (u : ℕ) → runAt s p u ≤ cap
+
+-- The words at p and just before t are equal calls.
+unfoldable pub goesOn : Job → List ℕ → ℕ → ℕ → Bool
+goesOn j ws p t = ltb 0 t && (leb t (j .m) && equalCalls (getD ws p 0) (getD ws (j .n + t - 1) 0))

@@ -1,6 +1,7 @@
 // The plain engine: any pair of positions may be looked at, and no hash.
 use sweep::Found;
 use sweep::Job;
+use sweep::Round;
 use sweep::Totals;
 use tile::PatternAt;
 use tile::TextAt;
@@ -10,12 +11,13 @@ ghost use Prim.Native.Nat.{_+_, _-_, _≤_, _<_};
 ghost use lib.ListN.{length, drop};
 ghost use Rattle.symbol.specs.Sequence.{Current};
 ghost use Rattle.tiling.specs.Comparing.{plainRefusal};
-ghost use Rattle.sweep.specs.Workspace.{Space, state};
+ghost use Rattle.sweep.specs.Workspace.{Space, state, bound};
 ghost use Rattle.sweep.specs.Row.{Row};
 ghost use Rattle.sweep.specs.First.{First};
-ghost use Rattle.sweep.specs.Progress.{Fits, Ready, Sweeping, Onward, Finished};
+ghost use Rattle.sweep.specs.Blocks.{Covering};
+ghost use Rattle.sweep.specs.Progress.{Fits, Searched, UpperFrom, RowBound, Filled, Ready, Sweeping, Onward, Finished};
 ghost use Rattle.plain.specs.Promise.{Plain};
-ghost use Rattle.plain.specs.Bounds.{LongestRuns};
+ghost use Rattle.plain.specs.Bounds.{Capped, goesOn};
 ghost use Rattle.plain.specs.Pair.{SideBySide};
 
 // The first position of the text from `from` on that has a, with b offset words further on; else the end of those that have a
@@ -54,75 +56,196 @@ fn row_search(pattern: &[u32], text: &[u32], floor: usize) -> Found
     found
 }
 
-// Searches the row at p of the sequences in the workspace.
-fn search_row(ws: &[u32], job: Job, p: PatternAt, floor: usize) -> Found
-    requires { ⌜ Space job (now ws) × (p .0 < job .n) × (floor ≤ 2048) ⌝ }
+// Searches the row at p for runs longer than floor, where none exceeds cap: so it ends at the first of cap words.
+fn search_row(ws: &[u32], job: Job, p: PatternAt, floor: usize, cap: usize) -> Found
+    requires { ⌜ Space job (now ws) × (p .0 < job .n) × (floor ≤ 2048) × Capped (state job (now ws)) (p .0) cap ⌝ }
     ensures { λ r. ⌜ Row (drop (p .0) (state job (now (ws .entry)) .pattern)) (state job (now (ws .entry)) .text) floor r ⌝ }
 {
     let from = p.0;
     let n = job.n;
+    let to = from + sweep::lesser(cap, n - from);
     let end = n + job.m;
-    row_search(&ws[from..n], &ws[n..end], floor)
+    row_search(&ws[from..to], &ws[n..end], floor)
 }
 
-// Sets the bound of each row to the length of its longest run, or to one below the minimum where that is greater.
-fn fill_bounds(ws: &mut [u32], job: Job)
-    requires { ⌜ Space job (now ws) × (1 ≤ job .minimum) × (job .minimum ≤ 256) ⌝ }
-    ensures { λ r. ⌜ LongestRuns job (now (ws .entry)) (now (ws .exit)) ⌝ }
+// Whether the run at t of the row after p goes on with the words one position before it.
+fn goes_on(ws: &[u32], job: Job, p: PatternAt, t: TextAt) -> bool
+    requires { ⌜ Space job (now ws) × (p .0 < job .n) ⌝ }
+    ensures { λ r. ⌜ r ≡ goesOn job (now (ws .entry)) (p .0) (t .0) ⌝ }
 {
-    let mut p = 0;
-    while p < job.n {
-        let found = search_row(ws, job, PatternAt(p), job.minimum - 1);
-        sweep::set_bound(ws, job, PatternAt(p), found.len);
-        p += 1;
+    if t.0 == 0 {
+        return false;
+    }
+    if job.m < t.0 {
+        return false;
+    }
+    let on_pattern = p.0;
+    let on_text = job.n + t.0 - 1;
+    symbol::equal_calls(ws[on_pattern], ws[on_text])
+}
+
+// Searches the row at p, and remembers it where its longest run is shorter than cap.
+fn search_kept(
+    ws: &[u32],
+    job: Job,
+    last: &mut usize,
+    p: PatternAt,
+    floor: usize,
+    cap: usize,
+) -> Found
+    requires { ⌜ Space job (now ws) × (p .0 < job .n) × (floor ≤ 2048) × Capped (state job (now ws)) (p .0) cap ⌝ }
+    ensures { λ r. ⌜ Row (drop (p .0) (state job (now (ws .entry)) .pattern)) (state job (now (ws .entry)) .text) floor r ⌝ }
+{
+    let found = search_row(ws, job, p, floor, cap);
+    if found.len < cap {
+        *last = p.0;
+    }
+    found
+}
+
+// A length up to cap that no run of the row at p exceeds, where none exceeds cap: as the row tells it that was searched last, or
+// cap itself where that is taken over, or as a search finds it. It looks for runs of half the minimum: where there is none, the
+// rows before need no search for as many words more.
+fn capped(ws: &[u32], job: Job, last: &mut usize, p: PatternAt, cap: usize) -> Found
+    requires { ⌜ Space job (now ws) × (p .0 < job .n) × (1 ≤ job .minimum) × (job .minimum ≤ 256) × (job .minimum ≤ cap) × RowBound job (state job (now ws)) (p .0) cap × UpperFrom job (now ws) (p .0 + 1) ⌝ }
+    ensures { λ r. ⌜ RowBound job (state job (now (ws .entry))) (p .0) (r .len) ⌝ }
+{
+    let known = sweep::bound_by(ws, job, p, PatternAt(*last), PatternAt(p.0 + 1), cap);
+    if known < cap || sweep::taken_over(job.minimum, cap) {
+        return Found {
+            t: TextAt(0),
+            len: known,
+        };
+    }
+    search_kept(ws, job, last, p, (job.minimum - 1) / 2, cap)
+}
+
+// A length that no run of the row at p exceeds, from that of the row after it: a run is at most one word longer than the run one
+// position on. The position is one at which a run of that length may be, or 0.
+fn row_bound(ws: &[u32], job: Job, last: &mut usize, p: PatternAt, after: Found) -> Found
+    requires { ⌜ Space job (now ws) × (p .0 < job .n) × (1 ≤ job .minimum) × (job .minimum ≤ 256) × RowBound job (state job (now ws)) (p .0 + 1) (after .len) × UpperFrom job (now ws) (p .0 + 1) ⌝ }
+    ensures { λ r. ⌜ RowBound job (state job (now (ws .entry))) (p .0) (r .len) ⌝ }
+{
+    let at = p.0;
+    if !symbol::is_call(ws[at]) {
+        return Found {
+            t: TextAt(0),
+            len: 0,
+        };
+    }
+    let cap = after.len + 1;
+    if cap < job.minimum {
+        return Found {
+            t: TextAt(0),
+            len: cap,
+        };
+    }
+    if goes_on(ws, job, p, after.t) {
+        return Found {
+            t: TextAt(after.t.0 - 1),
+            len: cap,
+        };
+    }
+    capped(ws, job, last, p, cap)
+}
+
+// Sets the bound of each row, from the last to the first.
+fn fill_bounds(ws: &mut [u32], job: Job, last: &mut usize)
+    requires { ⌜ Space job (now ws) × (1 ≤ job .minimum) × (job .minimum ≤ 256) ⌝ }
+    ensures { λ r. ⌜ Filled job (now (ws .entry)) (now (ws .exit)) ⌝ }
+{
+    let mut after = Found {
+        t: TextAt(0),
+        len: 0,
+    };
+    let mut p = job.n;
+    while 0 < p {
+        p -= 1;
+        after = row_bound(ws, job, last, PatternAt(p), after);
+        sweep::set_bound(ws, job, PatternAt(p), after.len);
     }
 }
 
-// One row of a sweep: where its bound is the level it is searched again and settled.
-fn visit(
+// The first run of cap words of row p, which has none that is longer; else a length below cap that no run of it exceeds, as the
+// row tells it that was searched last, or a search.
+fn find(ws: &[u32], job: Job, last: &mut usize, p: PatternAt, cap: usize) -> Found
+    requires { ⌜ Space job (now ws) × (p .0 < job .n) × (1 ≤ job .minimum) × (job .minimum ≤ 256) × (job .minimum ≤ cap) × (cap ≡ bound job (now ws) (p .0)) × UpperFrom job (now ws) 0 ⌝ }
+    ensures { λ r. ⌜ Searched job (now (ws .entry)) cap (p .0) r ⌝ }
+{
+    let known = sweep::bound_by(ws, job, p, PatternAt(*last), PatternAt(0), cap);
+    if known < cap {
+        return Found {
+            t: TextAt(0),
+            len: known,
+        };
+    }
+    search_kept(ws, job, last, p, job.minimum - 1, cap)
+}
+
+// A row whose bound is the level is searched again and settled, and the blocks are set anew whose bounds have fallen.
+fn step(
     ws: &mut [u32],
     job: Job,
-    level: usize,
+    last: &mut usize,
+    blocks: &mut [u32; 64],
     p: PatternAt,
     tiles: &mut [u32],
     totals: Totals,
 ) -> Totals
-    requires { ⌜ Sweeping job level (p .0) (now ws) (now tiles) totals × (p .0 < job .n) ⌝ }
-    ensures { λ r. ⌜ Sweeping job level (p .0 + 1) (now (ws .exit)) (now (tiles .exit)) r ⌝ }
+    requires { ⌜ Sweeping job (bound job (now ws) (p .0)) (p .0) (now ws) (now tiles) totals × Covering job (now ws) (now blocks) × (p .0 < job .n) ⌝ }
+    ensures { λ r. ⌜ Sweeping job (bound job (now (ws .entry)) (p .0)) (p .0 + 1) (now (ws .exit)) (now (tiles .exit)) r ⌝ }
     ensures { λ r. ⌜ Onward job (now (ws .entry)) (now (tiles .entry)) totals (now (ws .exit)) (now (tiles .exit)) r ⌝ }
+    ensures { λ r. ⌜ Covering job (now (ws .exit)) (now (blocks .exit)) ⌝ }
 {
-    if sweep::bound_of(ws, job, p) != level {
-        return totals;
-    }
-    let found = search_row(ws, job, p, job.minimum - 1);
-    sweep::settle(ws, job, level, p, found, tiles, totals)
+    let level = sweep::bound_of(ws, job, p);
+    let found = find(ws, job, last, p, level);
+    let sum = sweep::settle(ws, job, level, p, found, tiles, totals);
+    sweep::refresh(ws, job, blocks, p, sweep::settled_rows(totals, sum, level));
+    sum
 }
 
 // Goes through the rows in order and lays every tile of the level's length.
-fn sweep_rows(ws: &mut [u32], job: Job, level: usize, tiles: &mut [u32], totals: Totals) -> Totals
-    requires { ⌜ Sweeping job level 0 (now ws) (now tiles) totals ⌝ }
-    ensures { λ r. ⌜ Sweeping job level (job .n) (now (ws .exit)) (now (tiles .exit)) r ⌝ }
-    ensures { λ r. ⌜ Onward job (now (ws .entry)) (now (tiles .entry)) totals (now (ws .exit)) (now (tiles .exit)) r ⌝ }
+fn sweep_rows(
+    ws: &mut [u32],
+    job: Job,
+    last: &mut usize,
+    blocks: &mut [u32; 64],
+    tiles: &mut [u32],
+    round: Round,
+) -> Totals
+    requires { ⌜ Sweeping job (round .level) 0 (now ws) (now tiles) (round .totals) × Covering job (now ws) (now blocks) ⌝ }
+    ensures { λ r. ⌜ Sweeping job (round .level) (job .n) (now (ws .exit)) (now (tiles .exit)) r ⌝ }
+    ensures { λ r. ⌜ Onward job (now (ws .entry)) (now (tiles .entry)) (round .totals) (now (ws .exit)) (now (tiles .exit)) r ⌝ }
+    ensures { λ r. ⌜ Covering job (now (ws .exit)) (now (blocks .exit)) ⌝ }
 {
-    let mut sum = totals;
-    let mut p = 0;
-    while p < job.n {
-        sum = visit(ws, job, level, PatternAt(p), tiles, sum);
-        p += 1;
+    let level = round.level;
+    let mut sum = round.totals;
+    let mut p = sweep::next_row(ws, job, blocks, level, PatternAt(0));
+    while p.0 < job.n {
+        sum = step(ws, job, last, blocks, p, tiles, sum);
+        p = sweep::next_row(ws, job, blocks, level, PatternAt(p.0 + 1));
     }
     sum
 }
 
 // Lays the tiles of every length from the greatest bound down to the minimum.
-fn lay_all(ws: &mut [u32], job: Job, tiles: &mut [u32], totals: Totals) -> Totals
-    requires { ⌜ Ready job (now ws) (now tiles) totals ⌝ }
+fn lay_all(
+    ws: &mut [u32],
+    job: Job,
+    last: &mut usize,
+    blocks: &mut [u32; 64],
+    tiles: &mut [u32],
+    totals: Totals,
+) -> Totals
+    requires { ⌜ Ready job (now ws) (now tiles) totals × Covering job (now ws) (now blocks) ⌝ }
     ensures { λ r. ⌜ Finished job (job .minimum) (now (ws .entry)) (now (tiles .entry)) totals (now (ws .exit)) (now (tiles .exit)) r ⌝ }
 {
     let mut sum = totals;
-    let mut level = sweep::greatest_bound(ws, job);
+    let mut level = sweep::top(blocks);
     while job.minimum <= level {
-        sum = sweep_rows(ws, job, level, tiles, sum);
-        level = sweep::greatest_bound(ws, job);
+        let round = Round { level, totals: sum };
+        sum = sweep_rows(ws, job, last, blocks, tiles, round);
+        level = sweep::lesser(level - 1, sweep::top(blocks));
     }
     sum
 }
@@ -132,8 +255,11 @@ fn tile_all(ws: &mut [u32], job: Job, tiles: &mut [u32], totals: Totals) -> Tota
     requires { ⌜ Fits job (now ws) (now tiles) totals ⌝ }
     ensures { λ r. ⌜ Finished job (job .minimum) (now (ws .entry)) (now (tiles .entry)) totals (now (ws .exit)) (now (tiles .exit)) r ⌝ }
 {
-    fill_bounds(ws, job);
-    lay_all(ws, job, tiles, totals)
+    let mut last = 2048;
+    let mut blocks = [0u32; 64];
+    fill_bounds(ws, job, &mut last);
+    sweep::refresh(ws, job, &mut blocks, PatternAt(0), job.n);
+    lay_all(ws, job, &mut last, &mut blocks, tiles, totals)
 }
 
 // Why a comparison is refused; 0 where it is not.

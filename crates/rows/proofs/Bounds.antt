@@ -1,38 +1,34 @@
--- The bounds of the rows, from the last to the first. A run is at most one word longer than the run one position on, so the bound of a row is
--- at most one more than that of the row after it. A row that the filter does not know has no run of s words; another row may tell of it; and
--- what a search finds is a bound.
+-- The bounds that the search sets. A row that the filter does not know has no run of s words; another row may tell of it; and what a search
+-- finds is a bound.
 -- Assumes nothing.
-use Prim.Native.Nat.{ℕ, zero, suc, _+_, _-_, _*_, _≤_, _<_}
-use native.Mathlib.Decide.{decLt, decLe, ℕ-discrete}
+use Prim.Native.Nat.{ℕ, _+_, _-_, _≤_, _<_}
+use native.Mathlib.Decide.{decLt, decLe}
 use native.Mathlib.Omega.{arith}
 use mathlib.Core.Path.{_≡_, refl, sym, _∙_, ap, subst}
-use mathlib.Core.Bool.{Bool, true, false, not, _&&_}
+use mathlib.Core.Bool.{Bool, true, false, _&&_}
 use mathlib.Core.List.{List}
-use borrow.Author.Tests.{leb-true, ltb-true, le-leb, lt-leb, lt-ltb, le-ltb, eq-eqb, ne-eqb}
-use lib.Bits.{bitAnd}
-use lib.Dec.{leb, ltb, eqb}
-use lib.ListN.{length, drop, getD, set, length-set, length-drop}
-use lib.Seq.{getD-drop, getD-take, getD-set-same, getD-set-other}
-use Rattle.symbol.specs.Word.{isCall, equalCalls}
-use Rattle.symbol.proofs.Word.{and-left, and-right}
-use Rattle.symbol.proofs.Retired.{no-match-left}
+use borrow.Author.Tests.{ltb-true, le-leb, lt-leb, lt-ltb, le-ltb, eq-eqb, ne-eqb}
+use lib.Dec.{ltb, eqb}
+use lib.ListN.{drop, getD, set, length-drop}
+use Rattle.symbol.specs.Word.{equalCalls}
+use Rattle.symbol.proofs.Word.{and-left}
 use Rattle.window.specs.Hash.{bucket}
 use Rattle.tiling.specs.Tiling.{State, runAt}
-use Rattle.tiling.proofs.Run.{run-within, run-most}
-use Rattle.tiling.proofs.Best.{past-pattern}
+use Rattle.tiling.proofs.Run.{run-within}
 use Rattle.tile.specs.declared.TextAt.{TextAt}
-use Rattle.sweep.specs.Workspace.{Space, state, boundsFrom, bound}
+use Rattle.sweep.specs.Workspace.{Space, state, boundsFrom}
 use Rattle.sweep.specs.Row.{boundBy}
+use Rattle.sweep.specs.Progress.{UpperFrom, RowBound}
 use Rattle.sweep.specs.declared.Found.{Found}
 use Rattle.sweep.specs.declared.Job.{Job}
-use Rattle.sweep.proofs.Workspace.{state-set, space-kept, pattern-length}
-use Rattle.sweep.proofs.Told.{Told, bound-told}
+use Rattle.sweep.proofs.Workspace.{pattern-length}
+use Rattle.sweep.proofs.Told.{Telling, telling-none, bound-tells, bound-told}
+use Rattle.sweep.proofs.Bounds.{Filling, filling-none, filling-more, filling-all}
 use Rattle.index.specs.Indexed.{Ranges, Indexed, Filtered, patternHash, textHash, slot}
 use Rattle.index.specs.Built.{when}
 use Rattle.index.specs.declared.Pass.{Pass}
-use Rattle.index.proofs.Kept.{indexed-kept, filtered-kept, kept-set}
-use Rattle.rows.specs.Reached.{UpperFrom, Reached, Looked, RowBound, FilledRows, toldBy, goesOn, takenOver}
-use Rattle.rows.proofs.Pairs.{run-further}
+use Rattle.index.proofs.Kept.{Kept, indexed-kept, filtered-kept, kept-set}
+use Rattle.rows.specs.Reached.{Reached, Looked, FilledRows, toldBy, goesOn}
 
 -- ---- what was remembered
 pub remembered-not : (last : List ℕ) (len cap b p : ℕ) → cap ≤ len → last ≡ when (ltb len cap) (set last b p) last
@@ -46,48 +42,31 @@ module _ (x : Pass) (ws last : List ℕ) (p from cap own b q : ℕ) (eo : own �
   row : q ≡ getD last (bucket (x .buckets) (patternHash (x .job) ws p)) 0
   row = eq ∙ rw (eb, eo) refl
 
-  pub told-before : q < from → cap ≡ toldBy x ws last p from cap
+  pub told-past : x .job .n ≤ q → cap ≡ toldBy x ws last p from cap
   unfolding toldBy
-  told-before h = rw (toldBy, ← row, lt-leb from q h) refl
+  told-past h = rw (toldBy, ← row, le-ltb q (x .job .n) h) refl
 
-  pub told-past : from ≤ q → x .job .n ≤ q → cap ≡ toldBy x ws last p from cap
+  pub told-unlike : q < x .job .n → (h : ℕ) → h ≡ patternHash (x .job) ws q → (h ≡ own → ⊥) → cap ≡ toldBy x ws last p from cap
   unfolding toldBy
-  told-past a h = rw (toldBy, ← row, le-leb from q a, le-ltb q (x .job .n) h) refl
-
-  pub told-unlike : from ≤ q → q < x .job .n → (h : ℕ) → h ≡ patternHash (x .job) ws q → (h ≡ own → ⊥) → cap ≡ toldBy x ws last p from cap
-  unfolding toldBy
-  told-unlike a i h e d =
+  told-unlike i h e d =
       let k : eqb (patternHash (x .job) ws q) (patternHash (x .job) ws p) ≡ false = ne-eqb _ _ (λ z. d (e ∙ (z ∙ sym eo))) in
-      rw (toldBy, ← row, le-leb from q a, lt-ltb q (x .job .n) i, k) refl
+      rw (toldBy, ← row, lt-ltb q (x .job .n) i, k) refl
 
-  pub told-row : from ≤ q → q < x .job .n → (h : ℕ) → h ≡ patternHash (x .job) ws q → h ≡ own → (r : ℕ) → r ≡ boundBy (x .job) ws p q cap → r ≡ toldBy x ws last p from cap
+  pub told-row : q < x .job .n → (h : ℕ) → h ≡ patternHash (x .job) ws q → h ≡ own → (r : ℕ) → r ≡ boundBy (x .job) ws p q from cap → r ≡ toldBy x ws last p from cap
   unfolding toldBy
-  told-row a i h e z r w =
+  told-row i h e z r w =
       let k : eqb (patternHash (x .job) ws q) (patternHash (x .job) ws p) ≡ true = eq-eqb _ _ (sym e ∙ (z ∙ eo)) in
-      w ∙ rw (toldBy, ← row, le-leb from q a, lt-ltb q (x .job .n) i, k) (ap (λ z. boundBy (x .job) ws p z cap) row)
-
--- What it tells holds where the rows from `from` on have their bounds.
-pub record Telling (j : Job) (ws : List ℕ) (p cap r : ℕ) : Type 0 where
-  pub within : r ≤ cap
-  pub most : r < cap → (t : ℕ) → runAt (state j ws) p t ≤ r
-  pub inside : r < cap → p + r < j .n
-
-telling : (x : Pass) (ws last : List ℕ) (p from cap : ℕ) → Space (x .job) ws → UpperFrom (x .job) ws from → Telling (x .job) ws p cap (toldBy x ws last p from cap)
-unfolding toldBy
-telling x ws last p from cap space upper =
-    let q = getD last (bucket (x .buckets) (patternHash (x .job) ws p)) 0 in
-    go q (leb from q && (ltb q (x .job .n) && eqb (patternHash (x .job) ws q) (patternHash (x .job) ws p))) refl
-  where
-    go : (q : ℕ) (c : Bool) → leb from q && (ltb q (x .job .n) && eqb (patternHash (x .job) ws q) (patternHash (x .job) ws p)) ≡ c → Telling (x .job) ws p cap (elim c [ true ↦ boundBy (x .job) ws p q cap | false ↦ cap ])
-    go q false e = record { within = omega arith; most = λ l. absurd (omega arith); inside = λ l. absurd (omega arith) }
-    go q true e =
-        let a : from ≤ q = leb-true _ _ (and-left (leb from q) _ e) in
-        let b : q < x .job .n = ltb-true _ _ (and-left (ltb q (x .job .n)) _ (and-right (leb from q) _ e)) in
-        let t = bound-told (x .job) ws p q cap (boundBy (x .job) ws p q cap) refl in
-        record { within = t .within; most = t .most (λ u. upper q u a b); inside = t .inside space }
+      w ∙ rw (toldBy, ← row, lt-ltb q (x .job .n) i, k) (ap (λ z. boundBy (x .job) ws p z from cap) row)
 
 pub told-tells : (x : Pass) (ws last : List ℕ) (p from cap r : ℕ) → Space (x .job) ws → UpperFrom (x .job) ws from → r ≡ toldBy x ws last p from cap → Telling (x .job) ws p cap r
-told-tells x ws last p from cap r space upper e = subst (λ z. Telling (x .job) ws p cap z) (sym e) (telling x ws last p from cap space upper)
+unfolding toldBy
+told-tells x ws last p from cap r space upper e =
+    let q = getD last (bucket (x .buckets) (patternHash (x .job) ws p)) 0 in
+    subst (λ z. Telling (x .job) ws p cap z) (sym e) (go q (ltb q (x .job .n) && eqb (patternHash (x .job) ws q) (patternHash (x .job) ws p)))
+  where
+    go : (q : ℕ) (c : Bool) → Telling (x .job) ws p cap (elim c [ true ↦ boundBy (x .job) ws p q from cap | false ↦ cap ])
+    go q true = bound-tells (x .job) ws p q cap space from (boundBy (x .job) ws p q from cap) upper refl
+    go q false = telling-none (x .job) ws p cap
 
 -- ---- a row that is looked at for a run of cap words
 module _ (x : Pass) (ws : List ℕ) (p cap : ℕ) (space : Space (x .job) ws) (ranges : Ranges x) where
@@ -109,10 +88,6 @@ module _ (x : Pass) (ws : List ℕ) (p cap : ℕ) (space : Space (x .job) ws) (r
       small (yes l) =
           omega (arith, r .long l, run-within (drop p (state (x .job) ws .pattern)) (drop (f .t .0) (state (x .job) ws .text)), length-drop p (state (x .job) ws .pattern), pattern-length (x .job) ws space, space .short-pattern)
       small (no l) = omega (arith, l, ranges .most)
-
-pub taken-is : (s cap : ℕ) → leb (2 * s) cap && not (eqb (bitAnd cap (cap - 1)) 0) ≡ takenOver s cap
-unfolding takenOver
-taken-is s cap = refl
 
 -- ---- a run that goes on
 module _ (j : Job) (ws : List ℕ) (p t : ℕ) where
@@ -146,37 +121,6 @@ module _ (x : Pass) (ws : List ℕ) where
   abbrev st : State
   st = state (x .job) ws
 
-  -- Past the last row.
-  bound-none : Space (x .job) ws → RowBound (x .job) st (x .job .n) 0
-  bound-none space =
-      record {
-        most = λ u. omega (arith, past-pattern st (x .job .n) u (omega (arith, pattern-length (x .job) ws space)));
-        within = omega arith;
-      }
-
-  -- Where the pattern has no call.
-  pub bound-no-call : (p : ℕ) (b : Bool) → p < x .job .n → b ≡ isCall (getD ws p 0) → b ≡ false → RowBound (x .job) st p 0
-  bound-no-call p b h e z =
-      record {
-        most =
-            λ u.
-            run-most (drop p (st .pattern)) (drop u (st .text)) 0
-            (no-match-left _ (getD (drop u (st .text)) 0 0)
-            (rw (getD-drop p (st .pattern) 0 0, at, getD-take (x .job .n) ws p 0 h) (sym e ∙ z)));
-        within = omega arith;
-      }
-    where
-      at : p + 0 ≡ p
-      at = omega arith
-
-  -- One word more than the row after.
-  pub bound-more : (p len : ℕ) → RowBound (x .job) st (p + 1) len → RowBound (x .job) st p (len + 1)
-  bound-more p len c = record { most = λ u. step u (runAt st p u) refl; within = omega (arith, c .within) }
-    where
-      step : (u r : ℕ) → r ≡ runAt st p u → r ≤ len + 1
-      step u zero e = omega arith
-      step u (suc r) e = omega (arith, c .most (u + 1), run-further st p u 1 r (omega (arith, e)))
-
   pub bound-unknown : (p len : ℕ) → RowBound (x .job) st (p + 1) len → (filter : List ℕ) (own r : ℕ) → Ranges x → Filtered x ws filter → x .s ≤ len + 1 → own ≡ patternHash (x .job) ws p → r ≡ getD filter (slot own) 0 → (r ≡ 2 → ⊥) → RowBound (x .job) st p (x .s - 1)
   bound-unknown p len c filter own r ranges known h e w d = record { most = λ u. go u (decLe (x .s) (runAt st p u)); within = omega (arith, c .within, ranges .one) }
     where
@@ -186,18 +130,7 @@ module _ (x : Pass) (ws : List ℕ) where
 
   module _ (p cap : ℕ) (c : RowBound (x .job) st p cap) (space : Space (x .job) ws) where
     pub bound-known : (last : List ℕ) (r : ℕ) → UpperFrom (x .job) ws (p + 1) → r ≡ toldBy x ws last p (p + 1) cap → RowBound (x .job) st p r
-    bound-known last r upper e = record { most = λ u. most u (decLt r cap); within = within (decLt r cap) }
-      where
-        t : Telling (x .job) ws p cap r
-        t = told-tells x ws last p (p + 1) cap r space upper e
-
-        most : (u : ℕ) → Dec (r < cap) → runAt st p u ≤ r
-        most u (yes l) = t .most l u
-        most u (no l) = omega (arith, c .most u, l)
-
-        within : Dec (r < cap) → p + r ≤ x .job .n
-        within (yes l) = omega (arith, t .inside l)
-        within (no l) = omega (arith, t .within, c .within)
+    bound-known last r upper e = bound-told (x .job) ws p cap r c (told-tells x ws last p (p + 1) cap r space upper e)
 
     pub bound-found : (g : Found) → Ranges x → x .s ≤ cap → Reached (drop p (st .pattern)) (st .text) (x .s - 1) cap g → RowBound (x .job) st p (g .len)
     bound-found g ranges h r = record { most = λ u. most u (decLt (g .len) cap); within = within (decLt (x .s - 1) (g .len)) }
@@ -212,81 +145,25 @@ module _ (x : Pass) (ws : List ℕ) where
         within (no l) = omega (arith, c .within, l, r .least)
 
 -- ---- all of them
-pub record Filling (x : Pass) (heads filter ws₀ ws : List ℕ) (p : ℕ) (after : Found) : Type 0 where
-  pub within : p ≤ x .job .n
+pub record FillingRows (x : Pass) (heads filter ws₀ ws : List ℕ) (p after : ℕ) : Type 0 where
+  pub filling : Filling (x .job) ws₀ ws p after
   pub ranges : Ranges x
-  pub space : Space (x .job) ws
-  pub same-room : length ws ≡ length ws₀
-  pub same : state (x .job) ws ≡ state (x .job) ws₀
   pub indexed : Indexed x ws heads
   pub filtered : Filtered x ws filter
-  pub row : RowBound (x .job) (state (x .job) ws) p (after .len)
-  pub upper : UpperFrom (x .job) ws p
 
-pub filling-none : (x : Pass) (heads filter ws : List ℕ) (f : Found) → Space (x .job) ws → Ranges x → Indexed x ws heads → Filtered x ws filter → f .len ≡ 0 → Filling x heads filter ws ws (x .job .n) f
-filling-none x heads filter ws f space r i k z =
-    record {
-      within = omega arith;
-      ranges = r;
-      space = space;
-      same-room = refl;
-      same = refl;
-      indexed = i;
-      filtered = k;
-      row = rw z (bound-none x ws space);
-      upper = λ q t h l. absurd (omega arith);
-    }
+pub rows-none : (x : Pass) (heads filter ws : List ℕ) → Space (x .job) ws → Ranges x → Indexed x ws heads → Filtered x ws filter → FillingRows x heads filter ws ws (x .job .n) 0
+rows-none x heads filter ws space r i k = record { filling = filling-none (x .job) ws space; ranges = r; indexed = i; filtered = k }
 
-module _ (x : Pass) (heads filter ws₀ ws : List ℕ) (p : ℕ) (after : Found) (i : Filling x heads filter ws₀ ws p after) where
-  abbrev j : Job
-  j = x .job
-
-  -- The row before p.
-  pub before-row : 0 < p → RowBound j (state j ws) (p - 1 + 1) (after .len)
-  before-row h = let e : p - 1 + 1 ≡ p = omega arith in rw e (i .row)
-
-  pub before-upper : 0 < p → UpperFrom j ws (p - 1 + 1)
-  before-upper h = let e : p - 1 + 1 ≡ p = omega arith in rw e (i .upper)
-
-  pub row-fits : (q len : ℕ) → RowBound j (state j ws) q len → len ≤ 2048
-  row-fits q len c = omega (arith, c .within, i .space .short-pattern)
-
-  module _ (above : 0 < p) (f : Found) (c : RowBound j (state j ws) (p - 1) (f .len)) where
-    abbrev stored : List ℕ
-    stored = set ws (boundsFrom j + (p - 1)) (f .len)
-
-    at-row : bound j stored (p - 1) ≡ f .len
-    at-row = getD-set-same ws (boundsFrom j + (p - 1)) (f .len) 0 (omega (arith, i .space .roomy, i .within))
-
-    elsewhere : (q : ℕ) → (q ≡ p - 1 → ⊥) → bound j stored q ≡ bound j ws q
-    elsewhere q d = getD-set-other ws (boundsFrom j + (p - 1)) (boundsFrom j + q) (f .len) 0 (λ e. d (omega arith))
-
-    unmoved : state j stored ≡ state j ws
-    unmoved = state-set j ws (p - 1) (f .len)
-
-    upper : (q t : ℕ) → p - 1 ≤ q → q < j .n → Dec (q ≡ p - 1) → runAt (state j ws) q t ≤ bound j stored q
-    upper q t h l (yes e) = rw e (omega (arith, at-row, c .most t))
-    upper q t h l (no d) = omega (arith, elsewhere q d, i .upper q t (omega (arith, d)) l)
-
-    pub filling-more : (ws' : List ℕ) → ws' ≡ set ws (boundsFrom j + (p - 1)) (f .len) → Filling x heads filter ws₀ ws' (p - 1) f
-    filling-more ws' e =
-        let kept = kept-set j ws (p - 1) (f .len) (omega (arith, i .within)) in
-        subst (λ y. Filling x heads filter ws₀ y (p - 1) f) (sym e)
-        (record {
-          within = omega (arith, i .within);
-          ranges = i .ranges;
-          space = space-kept j ws stored (length-set ws (boundsFrom j + (p - 1)) (f .len)) unmoved (i .space);
-          same-room = length-set ws (boundsFrom j + (p - 1)) (f .len) ∙ i .same-room;
-          same = unmoved ∙ i .same;
-          indexed = indexed-kept x ws stored heads kept (i .indexed);
-          filtered = filtered-kept x ws stored filter (i .ranges) kept (i .filtered);
-          row = subst (λ (u : State). RowBound j u (p - 1) (f .len)) (sym unmoved) c;
-          upper = λ q t h l. subst (λ (u : State). runAt u q t ≤ bound j stored q) (sym unmoved) (upper q t h l (ℕ-discrete q (p - 1)));
-        })
-
-  pub filling-all : p ≤ 0 → FilledRows x heads ws₀ ws
-  filling-all z =
+module _ (x : Pass) (heads filter ws₀ ws : List ℕ) (p after : ℕ) (i : FillingRows x heads filter ws₀ ws p after) where
+  pub rows-more : 0 < p → (len : ℕ) → RowBound (x .job) (state (x .job) ws) (p - 1) len → (ws' : List ℕ) → ws' ≡ set ws (boundsFrom (x .job) + (p - 1)) len → FillingRows x heads filter ws₀ ws' (p - 1) len
+  rows-more above len c ws' e =
+      let kept : Kept (x .job) ws ws' = rw e (kept-set (x .job) ws (p - 1) len (omega (arith, i .filling .within))) in
       record {
-        filled = record { same = i .same; space = i .space; upper = λ q t l. i .upper q t (omega arith) l };
-        indexed = i .indexed;
+        filling = filling-more (x .job) ws₀ ws p after (i .filling) above len c ws' e;
+        ranges = i .ranges;
+        indexed = indexed-kept x ws ws' heads kept (i .indexed);
+        filtered = filtered-kept x ws ws' filter (i .ranges) kept (i .filtered);
       }
+
+  pub rows-all : p ≤ 0 → FilledRows x heads ws₀ ws
+  rows-all z = record { filled = filling-all (x .job) ws₀ ws p after (i .filling) z; indexed = i .indexed }

@@ -11,11 +11,10 @@ use mathlib.Core.List.{List}
 use borrow.Author.Tests.{eqb-false}
 use lib.Dec.{eqb}
 use lib.ListN.{take, drop}
-use lib.Seq.{drop-drop, getD-drop}
+use lib.Seq.{drop-drop}
 use Rattle.symbol.proofs.Sequence.{current-drop}
 use Rattle.tiling.specs.Run.{equalRun}
 use Rattle.tiling.specs.Tiling.{State, runAt}
-use Rattle.tiling.proofs.Run.{run-match, run-least}
 use Rattle.tiling.proofs.Replaced.{run-current}
 use Rattle.tile.specs.declared.TextAt.{TextAt}
 use Rattle.sweep.specs.Workspace.{Space, state}
@@ -23,6 +22,7 @@ use Rattle.sweep.specs.Row.{better}
 use Rattle.sweep.specs.declared.Found.{Found}
 use Rattle.sweep.specs.declared.Job.{Job}
 use Rattle.sweep.proofs.Row.{better-old}
+use Rattle.sweep.proofs.Bounds.{run-further}
 use Rattle.sweep.proofs.Workspace.{rest-of-front}
 use Rattle.index.specs.Indexed.{patternHash, textHash}
 use Rattle.index.specs.declared.Pass.{Pass}
@@ -40,17 +40,6 @@ run-of-parts j ws p t best r s e =
 -- Two hashes that were read.
 pub alike-is : (j : Job) (ws : List ℕ) (p t x y : ℕ) → x ≡ textHash j ws t → y ≡ patternHash j ws p → eqb x y ≡ eqb (textHash j ws t) (patternHash j ws p)
 alike-is j ws p t x y a b = rw (a, b) refl
-
--- From d words on, what is left of a run.
-pub run-further : (s : State) (p t d n : ℕ) → d + n ≤ runAt s p t → n ≤ runAt s (p + d) (t + d)
-run-further s p t d n h =
-    run-least (drop (p + d) (s .pattern)) (drop (t + d) (s .text)) n
-    (λ i k.
-    let m = run-match (drop p (s .pattern)) (drop t (s .text)) (d + i) (omega arith) in
-    let a : p + d + i ≡ p + (d + i) = omega arith in
-    let b : t + d + i ≡ t + (d + i) = omega arith in
-    rw (getD-drop (p + d) (s .pattern) i 0, getD-drop (t + d) (s .text) i 0, a, b, ← getD-drop p (s .pattern) (d + i) 0, ← getD-drop t (s .text) (d + i) 0)
-    m)
 
 module _ (x : Pass) (ws : List ℕ) (p t : ℕ) (f : Found) (alike : Alike x ws) (least : x .s ≤ f .len + 1) where
   abbrev j : Job

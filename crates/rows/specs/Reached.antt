@@ -1,16 +1,15 @@
 -- What searching a row by the index promises. No reader of the engines' contracts needs it.
-use Prim.Native.Nat.{ℕ, _+_, _-_, _*_, _≤_, _<_}
+use Prim.Native.Nat.{ℕ, _+_, _-_, _≤_, _<_}
 use mathlib.Core.Path.{_≡_}
-use mathlib.Core.Bool.{Bool, true, false, not, _&&_}
+use mathlib.Core.Bool.{Bool, true, false, _&&_}
 use mathlib.Core.List.{List}
-use lib.Bits.{bitAnd}
 use lib.Dec.{leb, ltb, eqb}
 use lib.ListN.{drop, getD}
 use Rattle.symbol.specs.Word.{equalCalls}
 use Rattle.window.specs.Hash.{bucket}
 use Rattle.tiling.specs.Run.{run}
 use Rattle.tiling.specs.Tiling.{State, runAt}
-use Rattle.sweep.specs.Workspace.{state, bound}
+use Rattle.sweep.specs.Workspace.{state}
 use Rattle.sweep.specs.Row.{boundBy}
 use Rattle.sweep.specs.Progress.{Filled}
 use Rattle.sweep.specs.declared.Found.{Found}
@@ -21,10 +20,6 @@ use Rattle.index.specs.declared.Pass.{Pass}
 -- Where a run of s words or more begins, the two windows have the same hash.
 abbrev pub Alike : Pass → List ℕ → Type 0
 Alike x ws = (p u : ℕ) → x .s ≤ runAt (state (x .job) ws) p u → textHash (x .job) ws u ≡ patternHash (x .job) ws p
-
--- No run of a row from `from` on exceeds its bound.
-abbrev pub UpperFrom : Job → List ℕ → ℕ → Type 0
-UpperFrom j ws from = (q t : ℕ) → from ≤ q → q < j .n → runAt (state j ws) q t ≤ bound j ws q
 
 -- The longest run of a row and the first position that has it, as in `Row`, but the search may end once it has met a run of `cap` words.
 pub record Reached (ps ts : List ℕ) (floor cap : ℕ) (f : Found) : Type 0 where
@@ -40,26 +35,17 @@ pub record Looked (s : State) (p cap : ℕ) (f : Found) : Type 0 where
   pub long : cap ≤ f .len → runAt s p (f .t .0) ≡ f .len
   pub first : cap ≤ f .len → (u : ℕ) → u < f .t .0 → runAt s p u < f .len
 
--- What row q, which was remembered, tells of row p: nothing where it is before `from` or past the pattern, or where its window has another hash.
+-- What row q, which was remembered, tells of row p: nothing where it is past the pattern or its window has another hash.
 unfoldable pub toldBy : Pass → List ℕ → List ℕ → ℕ → ℕ → ℕ → ℕ
 toldBy x ws last p from cap =
     let q = getD last (bucket (x .buckets) (patternHash (x .job) ws p)) 0 in
-    elim (leb from q && (ltb q (x .job .n) && eqb (patternHash (x .job) ws q) (patternHash (x .job) ws p)))
-    [ true ↦ boundBy (x .job) ws p q cap | false ↦ cap ]
+    elim (ltb q (x .job .n) && eqb (patternHash (x .job) ws q) (patternHash (x .job) ws p))
+    [ true ↦ boundBy (x .job) ws p q from cap | false ↦ cap ]
 
 -- The windows at p and just before t have the same hash, and the words there are equal calls.
 unfoldable pub goesOn : Job → List ℕ → ℕ → ℕ → Bool
 goesOn j ws p t =
     ltb 0 t && (leb t (j .m) && (eqb (textHash j ws (t - 1)) (patternHash j ws p) && equalCalls (getD ws p 0) (getD ws (j .n + t - 1) 0)))
-
--- A length of at least twice the search length that is no power of 2.
-unfoldable pub takenOver : ℕ → ℕ → Bool
-takenOver s cap = leb (2 * s) cap && not (eqb (bitAnd cap (cap - 1)) 0)
-
--- No run of the row at p exceeds the length, and so many words fit there.
-pub record RowBound (j : Job) (s : State) (p len : ℕ) : Type 0 where
-  pub most : (u : ℕ) → runAt s p u ≤ len
-  pub within : p + len ≤ j .n
 
 -- Every row has its bound, and the index is as it was.
 pub record FilledRows (x : Pass) (heads ws ws' : List ℕ) : Type 0 where

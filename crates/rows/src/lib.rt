@@ -14,9 +14,10 @@ ghost use Rattle.window.specs.Hash.{bucket};
 ghost use Rattle.tiling.specs.Tiling.{runAt};
 ghost use Rattle.sweep.specs.Workspace.{Space, state};
 ghost use Rattle.sweep.specs.Row.{better};
+ghost use Rattle.sweep.specs.Progress.{UpperFrom, RowBound};
 ghost use Rattle.index.specs.Indexed.{Ranges, Indexed, Filtered, patternHash, textHash};
 ghost use Rattle.index.specs.Built.{when};
-ghost use Rattle.rows.specs.Reached.{Alike, UpperFrom, Reached, Looked, RowBound, FilledRows, toldBy, goesOn, takenOver};
+ghost use Rattle.rows.specs.Reached.{Alike, Reached, Looked, FilledRows, toldBy, goesOn};
 
 // The run at a pair of positions where it is longer than best, else best.
 fn longer_at(ws: &[u32], job: Job, p: PatternAt, t: TextAt, best: usize) -> usize
@@ -121,7 +122,7 @@ fn search_row(
 }
 
 // What the row that is remembered for the bucket of p's window tells of row p, of which no run exceeds cap: nothing, and then it
-// is cap, where that row is before `from` or its window has another hash.
+// is cap, where the window of that row has another hash.
 fn told(
     ws: &[u32],
     pass: Pass,
@@ -135,16 +136,13 @@ fn told(
 {
     let own = index::pattern_hash(ws, pass.job, p);
     let q = last_row(last, index::bucket_of(own, pass.buckets));
-    if q.0 < from.0 {
-        return cap;
-    }
     if pass.job.n <= q.0 {
         return cap;
     }
     if index::pattern_hash(ws, pass.job, q) != own {
         return cap;
     }
-    sweep::bound_by(ws, pass.job, p, q, cap)
+    sweep::bound_by(ws, pass.job, p, q, from, cap)
 }
 
 // The first run of cap words of row p, which has none that is longer; else a length below cap that no run of it exceeds, as
@@ -189,15 +187,6 @@ fn goes_on(ws: &[u32], job: Job, p: PatternAt, t: TextAt) -> bool
     symbol::equal_calls(ws[on_pattern], ws[on_text])
 }
 
-// Whether a length is taken over from the row after, without a search: from twice the search length on, unless it is a power of
-// 2. So no bound is twice what a search would have found, and a long run is measured only a few times.
-fn taken_over(s: usize, cap: usize) -> bool
-    requires { ⌜ (s ≤ 2048) × (1 ≤ cap) ⌝ }
-    ensures { λ r. ⌜ r ≡ takenOver s cap ⌝ }
-{
-    (2 * s <= cap) & (cap & (cap - 1) != 0)
-}
-
 // A length up to cap that no run of the row at p exceeds, where none exceeds cap: as another row tells it, or cap itself where
 // that is taken over, or as a search finds it.
 fn capped(
@@ -212,7 +201,7 @@ fn capped(
     ensures { λ r. ⌜ RowBound (pass .job) (state (pass .job) (now (ws .entry))) (p .0) (r .len) ⌝ }
 {
     let known = told(ws, pass, last, p, PatternAt(p.0 + 1), cap);
-    if known < cap || taken_over(pass.s, cap) {
+    if known < cap || sweep::taken_over(pass.s, cap) {
         return Found {
             t: TextAt(0),
             len: known,

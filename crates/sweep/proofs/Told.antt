@@ -1,15 +1,16 @@
 -- Rows alike. Where two rows begin with the same calls for more words than the bound of one of them, a run of the other that exceeds that bound
 -- would be one of the first as well.
 -- Assumes nothing.
-use Prim.Native.Nat.{ℕ, _+_, _-_, _≤_, _<_, min, max}
+use Prim.Native.Nat.{ℕ, _+_, _-_, _*_, _≤_, _<_, max}
 use native.Mathlib.Decide.{decLt}
 use native.Mathlib.Omega.{arith}
 use mathlib.Core.Path.{_≡_, refl, sym, _∙_, subst}
-use mathlib.Core.Bool.{Bool, true, false, _&&_}
+use mathlib.Core.Bool.{Bool, true, false, not, _&&_}
 use mathlib.Core.List.{List, map}
-use borrow.Author.Tests.{ltb-true, lt-ltb, le-ltb}
-use lib.Dec.{ltb}
-use lib.ListN.{length, take, drop, getD, length-drop, length-take}
+use borrow.Author.Tests.{leb-true, ltb-true, le-leb, lt-leb, lt-ltb, le-ltb}
+use lib.Bits.{bitAnd}
+use lib.Dec.{leb, ltb, eqb}
+use lib.ListN.{length, take, drop, getD, length-drop}
 use lib.Seq.{take-take, getD-take}
 use Rattle.symbol.specs.Word.{replaced}
 use Rattle.symbol.proofs.Retired.{match-both}
@@ -19,7 +20,8 @@ use Rattle.tiling.specs.Tiling.{State, runAt}
 use Rattle.tiling.proofs.Run.{run-within, run-match, run-least}
 use Rattle.tiling.proofs.Replaced.{run-current}
 use Rattle.sweep.specs.Workspace.{Space, state, bound}
-use Rattle.sweep.specs.Row.{boundBy}
+use Rattle.sweep.specs.Row.{alikeBound, boundBy, takenOver}
+use Rattle.sweep.specs.Progress.{UpperFrom, RowBound}
 use Rattle.sweep.specs.declared.Job.{Job}
 use Rattle.sweep.proofs.Workspace.{rest-of-front, pattern-length}
 
@@ -72,32 +74,39 @@ module _ (j : Job) (ws : List ℕ) (s : Space j ws) where
           short (no n) = omega (arith, measured, n)
 
 -- ---- what a row tells of another
-pub record Told (j : Job) (ws : List ℕ) (p q cap r : ℕ) : Type 0 where
-  pub within : r ≤ cap
-  pub most : ((u : ℕ) → runAt (state j ws) q u ≤ bound j ws q) → r < cap → (t : ℕ) → runAt (state j ws) p t ≤ r
-  pub inside : Space j ws → r < cap → p + r < j .n
-
 module _ (j : Job) (ws : List ℕ) (p q cap : ℕ) where
   abbrev same : ℕ
   same = run (drop p (state j ws .pattern)) (drop q (state j ws .pattern))
 
-  pub by-cap : (len : ℕ) → len ≡ bound j ws q → cap ≤ len → cap ≡ boundBy j ws p q cap
-  unfolding boundBy
-  by-cap len e h = let l : cap ≤ bound j ws q = omega (arith, e) in rw (boundBy, le-ltb (bound j ws q) cap l) refl
+  module _ (len : ℕ) (e : len ≡ bound j ws q) where
+    pub by-cap : cap ≤ len → cap ≡ alikeBound j ws p q cap
+    unfolding alikeBound
+    by-cap h = let l : cap ≤ bound j ws q = omega (arith, e) in rw (alikeBound, le-ltb (bound j ws q) cap l) refl
 
-  pub by-unlike : (len : ℕ) → len ≡ bound j ws q → len < cap → (b : Bool) → b ≡ ltb len same → b ≡ false → cap ≡ boundBy j ws p q cap
-  unfolding boundBy
-  by-unlike len e h b k z =
-      let l : bound j ws q < cap = omega (arith, e) in
-      let m : ltb (bound j ws q) same ≡ false = rw (← e) (sym k ∙ z) in
-      rw (boundBy, lt-ltb (bound j ws q) cap l, m) refl
+    module _ (low : len < cap) (b : Bool) (k : b ≡ ltb len same) where
+      below : bound j ws q < cap
+      below = omega (arith, e)
 
-  pub by-alike : (len : ℕ) → len ≡ bound j ws q → len < cap → (b : Bool) → b ≡ ltb len same → b ≡ true → len ≡ boundBy j ws p q cap
-  unfolding boundBy
-  by-alike len e h b k z =
-      let l : bound j ws q < cap = omega (arith, e) in
-      let m : ltb (bound j ws q) same ≡ true = rw (← e) (sym k ∙ z) in
-      e ∙ rw (boundBy, lt-ltb (bound j ws q) cap l, m) refl
+      pub by-unlike : b ≡ false → cap ≡ alikeBound j ws p q cap
+      unfolding alikeBound
+      by-unlike z = let m : ltb (bound j ws q) same ≡ false = rw (← e) (sym k ∙ z) in rw (alikeBound, lt-ltb (bound j ws q) cap below, m) refl
+
+      pub by-alike : b ≡ true → len ≡ alikeBound j ws p q cap
+      unfolding alikeBound
+      by-alike z = let m : ltb (bound j ws q) same ≡ true = rw (← e) (sym k ∙ z) in e ∙ rw (alikeBound, lt-ltb (bound j ws q) cap below, m) refl
+
+  module _ (from : ℕ) where
+    pub by-before : q < from → cap ≡ boundBy j ws p q from cap
+    unfolding boundBy
+    by-before h = rw (boundBy, lt-leb from q h) refl
+
+    pub by-past : from ≤ q → j .n ≤ q → cap ≡ boundBy j ws p q from cap
+    unfolding boundBy
+    by-past least h = rw (boundBy, le-leb from q least, le-ltb q (j .n) h) refl
+
+    pub by-row : from ≤ q → q < j .n → (r : ℕ) → r ≡ alikeBound j ws p q cap → r ≡ boundBy j ws p q from cap
+    unfolding boundBy
+    by-row least inside r e = e ∙ rw (boundBy, le-leb from q least, lt-ltb q (j .n) inside) refl
 
   -- A run of p that exceeds q's bound would be one of q.
   shared : (s : State) (len t : ℕ) → ((u : ℕ) → runAt s q u ≤ len) → len < run (drop p (s .pattern)) (drop q (s .pattern)) → Dec (len < runAt s p t) → runAt s p t ≤ len
@@ -108,16 +117,49 @@ module _ (j : Job) (ws : List ℕ) (p q cap : ℕ) where
       let ts = drop t (s .text) in
       absurd (omega (arith, upper t, run-least qs ts (len + 1) (λ i l. match-both (getD ps i 0) (getD qs i 0) (getD ts i 0) (run-match ps qs i (omega arith)) (run-match ps ts i (omega arith)))))
 
-  tells : (a b : Bool) → ltb (bound j ws q) cap ≡ a → ltb (bound j ws q) same ≡ b → Told j ws p q cap (elim (a && b) [ true ↦ bound j ws q | false ↦ cap ])
-  tells true true e k =
+-- What it tells holds where the rows from `from` on have their bounds.
+pub record Telling (j : Job) (ws : List ℕ) (p cap r : ℕ) : Type 0 where
+  pub within : r ≤ cap
+  pub most : r < cap → (t : ℕ) → runAt (state j ws) p t ≤ r
+  pub inside : r < cap → p + r < j .n
+
+pub telling-none : (j : Job) (ws : List ℕ) (p cap : ℕ) → Telling j ws p cap cap
+telling-none j ws p cap = record { within = omega arith; most = λ l. absurd (omega arith); inside = λ l. absurd (omega arith) }
+
+module _ (j : Job) (ws : List ℕ) (p q cap : ℕ) (space : Space j ws) where
+  alike-tells : ((u : ℕ) → runAt (state j ws) q u ≤ bound j ws q) → (a b : Bool) → ltb (bound j ws q) cap ≡ a → ltb (bound j ws q) (same j ws p q cap) ≡ b → Telling j ws p cap (elim (a && b) [ true ↦ bound j ws q | false ↦ cap ])
+  alike-tells upper true true e k =
       record {
         within = omega (arith, ltb-true (bound j ws q) cap e);
-        most = λ upper l t. shared (state j ws) (bound j ws q) t upper (ltb-true (bound j ws q) same k) (decLt (bound j ws q) (runAt (state j ws) p t));
-        inside = λ s l. omega (arith, ltb-true (bound j ws q) same k, run-within (drop p (state j ws .pattern)) (drop q (state j ws .pattern)), length-drop p (state j ws .pattern), pattern-length j ws s);
+        most = λ l t. shared j ws p q cap (state j ws) (bound j ws q) t upper (ltb-true (bound j ws q) (same j ws p q cap) k) (decLt (bound j ws q) (runAt (state j ws) p t));
+        inside = λ l. omega (arith, ltb-true (bound j ws q) (same j ws p q cap) k, run-within (drop p (state j ws .pattern)) (drop q (state j ws .pattern)), length-drop p (state j ws .pattern), pattern-length j ws space);
       }
-  tells true false e k = record { within = omega arith; most = λ upper l. absurd (omega arith); inside = λ s l. absurd (omega arith) }
-  tells false b e k = record { within = omega arith; most = λ upper l. absurd (omega arith); inside = λ s l. absurd (omega arith) }
+  alike-tells upper true false e k = telling-none j ws p cap
+  alike-tells upper false b e k = telling-none j ws p cap
 
-  pub bound-told : (r : ℕ) → r ≡ boundBy j ws p q cap → Told j ws p q cap r
+  by-tells : (from : ℕ) → UpperFrom j ws from → (a b : Bool) → leb from q ≡ a → ltb q (j .n) ≡ b → Telling j ws p cap (elim (a && b) [ true ↦ alikeBound j ws p q cap | false ↦ cap ])
+  unfolding alikeBound
+  by-tells from upper true true e k =
+      alike-tells (λ u. upper q u (leb-true from q e) (ltb-true q (j .n) k)) (ltb (bound j ws q) cap) (ltb (bound j ws q) (same j ws p q cap)) refl refl
+  by-tells from upper true false e k = telling-none j ws p cap
+  by-tells from upper false b e k = telling-none j ws p cap
+
+  pub bound-tells : (from r : ℕ) → UpperFrom j ws from → r ≡ boundBy j ws p q from cap → Telling j ws p cap r
   unfolding boundBy
-  bound-told r e = subst (λ x. Told j ws p q cap x) (sym e) (tells (ltb (bound j ws q) cap) (ltb (bound j ws q) same) refl refl)
+  bound-tells from r upper e = subst (λ x. Telling j ws p cap x) (sym e) (by-tells from upper (leb from q) (ltb q (j .n)) refl refl)
+
+-- A bound that is told, and one that is not.
+pub bound-told : (j : Job) (ws : List ℕ) (p cap r : ℕ) → RowBound j (state j ws) p cap → Telling j ws p cap r → RowBound j (state j ws) p r
+bound-told j ws p cap r c t = record { most = λ u. most u (decLt r cap); within = within (decLt r cap) }
+  where
+    most : (u : ℕ) → Dec (r < cap) → runAt (state j ws) p u ≤ r
+    most u (yes l) = t .most l u
+    most u (no l) = omega (arith, c .most u, l)
+
+    within : Dec (r < cap) → p + r ≤ j .n
+    within (yes l) = omega (arith, t .inside l)
+    within (no l) = omega (arith, t .within, c .within)
+
+pub taken-is : (s cap : ℕ) → leb (2 * s) cap && not (eqb (bitAnd cap (cap - 1)) 0) ≡ takenOver s cap
+unfolding takenOver
+taken-is s cap = refl

@@ -63,9 +63,17 @@ pub record Searched (j : Job) (ws : List ℕ) (level p : ℕ) (f : Found) : Type
   pub long : f .len ≡ level → runAt (state j ws) p (f .t .0) ≡ level
   pub first : f .len ≡ level → (t : ℕ) → t < f .t .0 → runAt (state j ws) p t < level
 
--- No run of a row exceeds its bound.
+-- No run of a row exceeds its bound; and none of a row from `from` on.
 abbrev pub Upper : Job → List ℕ → Type 0
 Upper j ws = (q t : ℕ) → q < j .n → runAt (state j ws) q t ≤ bound j ws q
+
+abbrev pub UpperFrom : Job → List ℕ → ℕ → Type 0
+UpperFrom j ws from = (q t : ℕ) → from ≤ q → q < j .n → runAt (state j ws) q t ≤ bound j ws q
+
+-- No run of the row at p exceeds the length, and so many words fit there.
+pub record RowBound (j : Job) (s : State) (p len : ℕ) : Type 0 where
+  pub most : (u : ℕ) → runAt s p u ≤ len
+  pub within : p + len ≤ j .n
 
 -- The bounds were filled, and the sequences are as they were.
 pub record Filled (j : Job) (ws ws' : List ℕ) : Type 0 where

@@ -1,10 +1,11 @@
 -- What searching a row promises, and the greatest of the bounds. No reader of the engines' contracts needs these: they tie the functions
 -- of the engines together.
-use Prim.Native.Nat.{ℕ, _≤_, _<_}
-use mathlib.Core.Bool.{true, false, _&&_}
+use Prim.Native.Nat.{ℕ, _-_, _*_, _≤_, _<_}
+use mathlib.Core.Bool.{Bool, true, false, not, _&&_}
 use mathlib.Core.Path.{_≡_}
 use mathlib.Core.List.{List}
-use lib.Dec.{ltb}
+use lib.Bits.{bitAnd}
+use lib.Dec.{leb, ltb, eqb}
 use lib.ListN.{drop}
 use Rattle.tile.specs.declared.TextAt.{TextAt}
 use Rattle.tiling.specs.Run.{run}
@@ -37,7 +38,15 @@ pub record Greatest (f : ℕ → ℕ) (n r : ℕ) : Type 0 where
 
 -- What row q tells of row p, of which no run exceeds cap: q's bound, where it is below cap and both rows begin with the same calls for more
 -- words than that; else cap.
-unfoldable pub boundBy : Job → List ℕ → ℕ → ℕ → ℕ → ℕ
-boundBy j ws p q cap =
+unfoldable pub alikeBound : Job → List ℕ → ℕ → ℕ → ℕ → ℕ
+alikeBound j ws p q cap =
     elim (ltb (bound j ws q) cap && ltb (bound j ws q) (run (drop p (state j ws .pattern)) (drop q (state j ws .pattern))))
     [ true ↦ bound j ws q | false ↦ cap ]
+
+-- A row before `from`, or past the pattern, tells nothing.
+unfoldable pub boundBy : Job → List ℕ → ℕ → ℕ → ℕ → ℕ → ℕ
+boundBy j ws p q from cap = elim (leb from q && ltb q (j .n)) [ true ↦ alikeBound j ws p q cap | false ↦ cap ]
+
+-- A length of at least twice s that is no power of 2.
+unfoldable pub takenOver : ℕ → ℕ → Bool
+takenOver s cap = leb (2 * s) cap && not (eqb (bitAnd cap (cap - 1)) 0)

@@ -8,7 +8,7 @@ ghost use lib.Dec.{ltb};
 ghost use lib.ListN.{length, drop, getD, set};
 ghost use Rattle.tiling.specs.Run.{run};
 ghost use Rattle.sweep.specs.Workspace.{Space, state, boundsFrom, bound, laid};
-ghost use Rattle.sweep.specs.Row.{better, Greatest, boundBy};
+ghost use Rattle.sweep.specs.Row.{better, Greatest, alikeBound, boundBy, takenOver};
 ghost use Rattle.sweep.specs.First.{First};
 ghost use Rattle.sweep.specs.Blocks.{BlockSet, Refreshed, Covering, rowAfter};
 ghost use Rattle.sweep.specs.Settled.{settledWords, settledTiles, settledTotals, settledRows};
@@ -222,10 +222,10 @@ fn alike(ws: &[u32], job: Job, p: PatternAt, q: PatternAt, len: usize) -> bool
 }
 
 // What row q tells of row p, of which no run exceeds cap: where both begin with the same calls for more words than q's bound,
-// no run of p exceeds that bound either. It is cap where q tells nothing.
-pub fn bound_by(ws: &[u32], job: Job, p: PatternAt, q: PatternAt, cap: usize) -> usize
+// no run of p exceeds that bound either. It is cap where q tells nothing less.
+fn alike_bound(ws: &[u32], job: Job, p: PatternAt, q: PatternAt, cap: usize) -> usize
     requires { ⌜ Space job (now ws) × (p .0 < job .n) × (q .0 < job .n) ⌝ }
-    ensures { λ r. ⌜ r ≡ boundBy job (now (ws .entry)) (p .0) (q .0) cap ⌝ }
+    ensures { λ r. ⌜ r ≡ alikeBound job (now (ws .entry)) (p .0) (q .0) cap ⌝ }
 {
     let len = bound_of(ws, job, q);
     if cap <= len {
@@ -235,6 +235,29 @@ pub fn bound_by(ws: &[u32], job: Job, p: PatternAt, q: PatternAt, cap: usize) ->
         return cap;
     }
     len
+}
+
+// The same of a row that need not be there: before `from`, or past the pattern, it tells nothing.
+pub fn bound_by(ws: &[u32], job: Job, p: PatternAt, q: PatternAt, from: PatternAt, cap: usize) -> usize
+    requires { ⌜ Space job (now ws) × (p .0 < job .n) ⌝ }
+    ensures { λ r. ⌜ r ≡ boundBy job (now (ws .entry)) (p .0) (q .0) (from .0) cap ⌝ }
+{
+    if q.0 < from.0 {
+        return cap;
+    }
+    if job.n <= q.0 {
+        return cap;
+    }
+    alike_bound(ws, job, p, q, cap)
+}
+
+// Whether a bound is taken over from the row after, without a search: from 2 s words on, unless it is a power of 2. So no bound
+// is twice what a search would have found, and a long run is measured only a few times.
+pub fn taken_over(s: usize, cap: usize) -> bool
+    requires { ⌜ (s ≤ 2048) × (1 ≤ cap) ⌝ }
+    ensures { λ r. ⌜ r ≡ takenOver s cap ⌝ }
+{
+    (2 * s <= cap) & (cap & (cap - 1) != 0)
 }
 
 // Marks the words of a tile on both sequences, and clears the bounds of the rows that it covers.

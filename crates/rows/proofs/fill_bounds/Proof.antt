@@ -1,18 +1,19 @@
 -- `rows::fill_bounds` meets its contract: at the head of each turn the rows from p on have their bounds, and the last of them caps the row before.
 -- Assumes nothing.
-use Rattle.rows.proofs.Bounds.{Filling, filling-none, filling-more, filling-all, before-row, before-upper, row-fits}
+use Rattle.sweep.proofs.Bounds.{before-row, before-upper, row-fits}
+use Rattle.rows.proofs.Bounds.{FillingRows, rows-none, rows-more, rows-all}
 use borrow.Author.Needs.{needs}
 use Rattle.rows.proofs.fill_bounds.Statement.{statement}
 use Rattle.rows.proofs.fill_bounds.Tie as tie
 
 abbrev Inv-loop : tie.InvT-loop
-Inv-loop ws₀ pass heads filter last₀ after₀ p₀ ws last after p = Filling pass heads filter ws₀ ws p after
+Inv-loop ws₀ pass heads filter last₀ after₀ p₀ ws last after p = FillingRows pass heads filter ws₀ ws p (after .len)
 
 abbrev μ-loop : tie.MeasureT-loop
 μ-loop ws₀ pass heads filter last₀ after₀ p₀ ws last after p = p
 
 loop-holds : tie.Need-loop-holds Inv-loop μ-loop
-loop-holds c = search filling-none
+loop-holds c = search rows-none
 
 sub-p : tie.Need-sub-p Inv-loop μ-loop
 sub-p c = search needs
@@ -27,13 +28,13 @@ loop-less : tie.Need-loop-less Inv-loop μ-loop
 loop-less c = search needs
 
 loop-again : tie.Need-loop-again Inv-loop μ-loop
-loop-again c = search filling-more
+loop-again c = search rows-more
 
 same-length : tie.Need-same-length Inv-loop μ-loop
 same-length c = search needs
 
 returns : tie.Need-returns Inv-loop μ-loop
-returns c = search filling-all
+returns c = search rows-all
 
 pub fill-bounds-spec : {M : Type 1} → statement M
 fill-bounds-spec =

@@ -2,7 +2,8 @@
 -- none of s words where the filter does not know the window.
 -- Assumes nothing.
 use borrow.Author.Tests.{not-true}
-use Rattle.rows.proofs.Bounds.{bound-no-call, bound-more, bound-unknown, goes-back}
+use Rattle.sweep.proofs.Bounds.{bound-no-call, bound-more}
+use Rattle.rows.proofs.Bounds.{bound-unknown, goes-back}
 use borrow.Author.Needs.{needs}
 use Rattle.rows.proofs.row_bound.Statement.{statement}
 use Rattle.rows.proofs.row_bound.Tie as tie

@@ -1,6 +1,6 @@
--- `rows::told` meets its contract: the row that is remembered is asked where it may tell.
+-- `rows::told` meets its contract: the row that is remembered is asked where its window has the same hash.
 -- Assumes nothing.
-use Rattle.rows.proofs.Bounds.{told-before, told-past, told-unlike, told-row}
+use Rattle.rows.proofs.Bounds.{told-past, told-unlike, told-row}
 use borrow.Author.Needs.{needs}
 use Rattle.rows.proofs.told.Statement.{statement}
 use Rattle.rows.proofs.told.Tie as tie
@@ -15,22 +15,19 @@ last-row-requires : tie.Need-last-row-requires
 last-row-requires c κs = search needs
 
 returns : tie.Need-returns
-returns c = search told-before
-
-returns-2 : tie.Need-returns-2
-returns-2 c = search told-past
+returns c = search told-past
 
 pattern-hash-requires-2 : tie.Need-pattern-hash-requires-2
 pattern-hash-requires-2 c κs = search needs
 
-returns-3 : tie.Need-returns-3
-returns-3 c = search told-unlike
+returns-2 : tie.Need-returns-2
+returns-2 c = search told-unlike
 
 bound-by-requires : tie.Need-bound-by-requires
 bound-by-requires c κs = search needs
 
-returns-4 : tie.Need-returns-4
-returns-4 c = search told-row
+returns-3 : tie.Need-returns-3
+returns-3 c = search told-row
 
 pub told-spec : {M : Type 1} → statement M
 told-spec =
@@ -40,8 +37,7 @@ told-spec =
     bucket-of-requires
     last-row-requires
     returns
-    returns-2
     pattern-hash-requires-2
-    returns-3
+    returns-2
     bound-by-requires
-    returns-4)
+    returns-3)

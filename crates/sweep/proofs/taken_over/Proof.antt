@@ -1,9 +1,9 @@
--- `rows::taken_over` meets its contract: it is the definition.
+-- `sweep::taken_over` meets its contract: it is the definition.
 -- Assumes nothing.
-use Rattle.rows.proofs.Bounds.{taken-is}
+use Rattle.sweep.proofs.Told.{taken-is}
 use borrow.Author.Needs.{needs}
-use Rattle.rows.proofs.taken_over.Statement.{statement}
-use Rattle.rows.proofs.taken_over.Tie as tie
+use Rattle.sweep.proofs.taken_over.Statement.{statement}
+use Rattle.sweep.proofs.taken_over.Tie as tie
 
 mul-result : tie.Need-mul-result
 mul-result c = search needs
