@@ -57,19 +57,15 @@ module _ (j : Job) (ws : List ℕ) (p cap : ℕ) (space : Space j ws) where
   pub bound-known : (q r : ℕ) → RowBound j (state j ws) p cap → UpperFrom j ws (p + 1) → r ≡ boundBy j ws p q (p + 1) cap → RowBound j (state j ws) p r
   bound-known q r c upper e = bound-told j ws p cap r c (bound-tells j ws p q cap space (p + 1) r upper e)
 
-  pub bound-found : (floor : ℕ) (f : Found) → floor ≤ cap → RowBound j (state j ws) p cap → Row (drop p (state j ws .pattern)) (state j ws .text) floor f → RowBound j (state j ws) p (f .len)
-  bound-found floor f h c r = record { most = r .most; within = within (decLt floor (f .len)) }
+  pub bound-found : j .minimum ≤ cap → (f : Found) → RowBound j (state j ws) p cap → Row (drop p (state j ws .pattern)) (state j ws .text) ((j .minimum - 1) / 2) f → RowBound j (state j ws) p (f .len)
+  bound-found h f c r = record { most = r .most; within = within (decLt ((j .minimum - 1) / 2) (f .len)) }
     where
-      within : Dec (floor < f .len) → p + f .len ≤ j .n
+      within : Dec ((j .minimum - 1) / 2 < f .len) → p + f .len ≤ j .n
       within (yes l) = omega (arith, r .long l, c .most (f .t .0), c .within)
       within (no l) = omega (arith, r .least, c .within, l)
 
--- Half the minimum.
 pub half-low : (minimum : ℕ) → minimum ≤ 256 → (minimum - 1) / 2 ≤ 2048
 half-low minimum h = omega arith
-
-pub half-below : (minimum cap : ℕ) → minimum ≤ cap → (minimum - 1) / 2 ≤ cap
-half-below minimum cap h = omega arith
 
 -- ---- a row of the level
 module _ (j : Job) (ws : List ℕ) (p cap : ℕ) (space : Space j ws) (inside : p < j .n) (full : cap ≡ bound j ws p) (upper : UpperFrom j ws 0) where

@@ -15,7 +15,7 @@ ghost use Rattle.sweep.specs.Workspace.{Space, state, bound};
 ghost use Rattle.sweep.specs.Row.{Row};
 ghost use Rattle.sweep.specs.First.{First};
 ghost use Rattle.sweep.specs.Blocks.{Covering};
-ghost use Rattle.sweep.specs.Progress.{Fits, Searched, UpperFrom, RowBound, Filled, Ready, Sweeping, Onward, Finished};
+ghost use Rattle.sweep.specs.Progress.{Fits, Searched, UpperFrom, RowBound, Filled, Ready, Falling, Sweeping, Onward, Finished};
 ghost use Rattle.plain.specs.Promise.{Plain};
 ghost use Rattle.plain.specs.Bounds.{Capped, goesOn};
 ghost use Rattle.plain.specs.Pair.{SideBySide};
@@ -182,7 +182,26 @@ fn find(ws: &[u32], job: Job, last: &mut usize, p: PatternAt, cap: usize) -> Fou
     search_kept(ws, job, last, p, job.minimum - 1, cap)
 }
 
-// A row whose bound is the level is searched again and settled, and the blocks are set anew whose bounds have fallen.
+// A row whose bound is the level is searched again and settled.
+fn visit(
+    ws: &mut [u32],
+    job: Job,
+    last: &mut usize,
+    p: PatternAt,
+    tiles: &mut [u32],
+    totals: Totals,
+) -> Totals
+    requires { ⌜ Sweeping job (bound job (now ws) (p .0)) (p .0) (now ws) (now tiles) totals × (p .0 < job .n) ⌝ }
+    ensures { λ r. ⌜ Sweeping job (bound job (now (ws .entry)) (p .0)) (p .0 + 1) (now (ws .exit)) (now (tiles .exit)) r ⌝ }
+    ensures { λ r. ⌜ Onward job (now (ws .entry)) (now (tiles .entry)) totals (now (ws .exit)) (now (tiles .exit)) r ⌝ }
+    ensures { λ r. ⌜ Falling job (now (ws .entry)) (now (ws .exit)) ⌝ }
+{
+    let level = sweep::bound_of(ws, job, p);
+    let found = find(ws, job, last, p, level);
+    sweep::settle(ws, job, level, p, found, tiles, totals)
+}
+
+// The same, and the blocks are set anew whose bounds have fallen.
 fn step(
     ws: &mut [u32],
     job: Job,
@@ -198,9 +217,9 @@ fn step(
     ensures { λ r. ⌜ Covering job (now (ws .exit)) (now (blocks .exit)) ⌝ }
 {
     let level = sweep::bound_of(ws, job, p);
-    let found = find(ws, job, last, p, level);
-    let sum = sweep::settle(ws, job, level, p, found, tiles, totals);
-    sweep::refresh(ws, job, blocks, p, sweep::settled_rows(totals, sum, level));
+    let sum = visit(ws, job, last, p, tiles, totals);
+    let rows = sweep::settled_rows(totals, sum, level);
+    sweep::refresh(ws, job, blocks, p, rows);
     sum
 }
 

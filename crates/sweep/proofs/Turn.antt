@@ -124,6 +124,9 @@ pub record Level (j : Job) (n : ℕ) (ws₀ b₀ : List ℕ) (k₀ : Totals) (ws
   pub same-room : length ws ≡ length ws₀
   pub same-tiles : length b ≡ length b₀
 
+pub level-least : (j : Job) → j .minimum ≤ j .minimum
+level-least j = omega arith
+
 pub level-none : (j : Job) (n : ℕ) (ws b : List ℕ) (k : Totals) (bs : List ℕ) (level : ℕ) → j .minimum ≤ n → Ready j ws b k → Covering j ws bs → Greatest (λ c. getD bs c 0) 64 level → Level j n ws b k ws b k bs level
 level-none j n ws b k bs level h r c g =
     record { ready = r; enough = h; covering = c; capped = covering-top j ws bs level (r .fits .space) c g; onward = onward-none j ws b k; same-room = refl; same-tiles = refl }
