@@ -269,6 +269,16 @@ fn lay_all(
     sum
 }
 
+// Sets the bounds of all rows, and those of their blocks.
+fn prepare(ws: &mut [u32], job: Job, last: &mut usize, blocks: &mut [u32; 64])
+    requires { ⌜ Space job (now ws) × (1 ≤ job .minimum) × (job .minimum ≤ 256) ⌝ }
+    ensures { λ r. ⌜ Filled job (now (ws .entry)) (now (ws .exit)) ⌝ }
+    ensures { λ r. ⌜ Covering job (now (ws .exit)) (now (blocks .exit)) ⌝ }
+{
+    fill_bounds(ws, job, last);
+    sweep::refresh(ws, job, blocks, PatternAt(0), job.n);
+}
+
 // Lays every tile of at least the minimum, from the state that the workspace holds.
 fn tile_all(ws: &mut [u32], job: Job, tiles: &mut [u32], totals: Totals) -> Totals
     requires { ⌜ Fits job (now ws) (now tiles) totals ⌝ }
@@ -276,8 +286,7 @@ fn tile_all(ws: &mut [u32], job: Job, tiles: &mut [u32], totals: Totals) -> Tota
 {
     let mut last = 2048;
     let mut blocks = [0u32; 64];
-    fill_bounds(ws, job, &mut last);
-    sweep::refresh(ws, job, &mut blocks, PatternAt(0), job.n);
+    prepare(ws, job, &mut last, &mut blocks);
     lay_all(ws, job, &mut last, &mut blocks, tiles, totals)
 }
 
