@@ -9,7 +9,9 @@ prepare-requires : tie.Need-prepare-requires
 prepare-requires c κs = search needs
 
 lay-all-requires : tie.Need-lay-all-requires
-lay-all-requires c κs = (search filled-ready, search needs)
+lay-all-requires c κs =
+    let d = c .before .before .before .before .before in
+    (filled-ready _ _ _ _ _ (d .before .prepare .ensures .0) (search needs) (d .ws .given), search needs)
 
 same-length : tie.Need-same-length
 same-length c = search needs
