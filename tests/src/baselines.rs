@@ -4,6 +4,7 @@ use crate::group::Group;
 use crate::known::Letters;
 use crate::pairs::any_pair;
 use crate::reference::tiling;
+use crate::tuned;
 use crate::wise;
 
 /// The port of Wise's program lays the tiles of the literal tiling, in the same order, whatever its
@@ -23,6 +24,25 @@ pub fn wise_random(g: &mut Group) {
                 Letters(second)
             ),
             tiles,
+            tiling(first, second, minimum),
+        );
+    }
+}
+
+/// The port of Wise's tuned tiling lays them too.
+pub fn tuned_random(g: &mut Group) {
+    for _ in 0..10_000 {
+        let codes = g.random.pick(&[1, 2, 2, 3, 4, 10]);
+        let longest = g.random.pick(&[8, 20, 60, 60, 150]);
+        let [first, second] = &any_pair(&mut g.random, longest, codes);
+        let minimum = g.random.pick(&[1, 1, 2, 3, 5, 8]);
+        g.equal(
+            format_args!(
+                "{} and {}, minimum {minimum}",
+                Letters(first),
+                Letters(second)
+            ),
+            tuned::tiling(first, second, minimum),
             tiling(first, second, minimum),
         );
     }
