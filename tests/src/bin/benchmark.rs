@@ -9,14 +9,18 @@ use std::process::ExitCode;
 /// Everything in order; whether all answers agree and all promises are kept.
 fn measure() -> Result<bool, String> {
     counting::ready()?;
-    let mut jobs = timing::jobs();
+    let (mut ordinary, mut tilings) = (timing::ordinary(), timing::tilings());
     let mut covered = cover::jobs();
-    if !(timing::agree(&mut jobs) & cover::agree(&mut covered) & counting::agree()) {
+    if !(timing::agree(&mut ordinary, &mut tilings)
+        & cover::agree(&mut covered)
+        & counting::agree())
+    {
         return Ok(false);
     }
     println!("All columns give the same answers and tiles and leave a dirty workspace zero.\n");
     let promises = &mut Promises::default();
-    timing::compare_columns(&mut jobs, promises);
+    timing::compare_ordinary(&mut ordinary, promises);
+    timing::compare_tilings(&mut tilings, promises);
     timing::grow();
     cover::compare_cover(&mut covered, promises);
     matrix::compare_matrix(promises).map_err(|error| error.to_string())?;
