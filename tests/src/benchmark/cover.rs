@@ -1,11 +1,10 @@
 //! The cover at every minimum from one run, beside a comparison at each minimum and beside one at the
 //! least.
 
-use super::table::{About, Everywhere, Limit, Measure, Table};
+use super::table::{About, Everywhere, Limit, Measure, Table, USUAL};
 use super::{all_agree, timing, Column, Heeds, Job, Promises, FAST, START};
 use crate::reference::COVER_WORDS;
 use sigxume::{raw, Settings};
-use std::time::Duration;
 
 /// The pairs of the first tables that are covered.
 const PAIRS: [&str; 5] = [
@@ -60,11 +59,11 @@ static TABLE: Table = Table {
         others: &[],
         exceptions: &[],
     }],
-    least: Duration::from_millis(500),
+    least: USUAL,
 };
 
 /// The pairs that are covered.
-pub fn jobs() -> Vec<Job> {
+fn jobs() -> Vec<Job> {
     let pairs = timing::jobs().into_iter();
     let covered = pairs.filter(|job| PAIRS.contains(&&*job.name));
     covered
@@ -73,16 +72,16 @@ pub fn jobs() -> Vec<Job> {
 }
 
 /// Whether the cover is that of the comparisons at each minimum, in its answer, its words and its tiles.
-pub fn agree(jobs: &mut [Job]) -> bool {
-    all_agree(jobs, &[&COVER, &EACH])
+pub fn agree() -> bool {
+    all_agree(&mut jobs(), &[&COVER, &EACH])
 }
 
 /// Prints the time of a cover, of the comparisons at each minimum and of the one at the least.
-pub fn compare_cover(jobs: &mut [Job], promises: &mut Promises) {
+pub fn compare_cover(promises: &mut Promises) {
     println!(
         "\nCover at every minimum. Median time in microseconds of one run of it, of a comparison at each minimum \
          from {MINIMUM} to {COVER_WORDS}, and of one at minimum {MINIMUM}, all by the fast engine with the \
          library's settings; pairs of the first tables.\n"
     );
-    TABLE.print(jobs, promises);
+    TABLE.print(&mut jobs(), promises);
 }

@@ -1,1 +1,4 @@
 //! Peers.
+pub fn compare_peers() -> std::io::Result<()> {
+    Ok(())
+}

@@ -3,8 +3,7 @@
 use super::{grouped, head, row, Column, Job, Promises};
 use std::time::{Duration, Instant};
 
-/// A job is timed at least so often, but no further once it has taken very long.
-const LEAST_RUNS: usize = 3;
+/// A job is not timed again once it has taken so long.
 const MOST_TIME: Duration = Duration::from_secs(4);
 
 /// How long a column is timed before it is the next one's turn.
@@ -31,9 +30,8 @@ impl Times {
         }
     }
 
-    /// Whether it has been timed for so long.
-    fn enough(&self, least: Duration) -> bool {
-        let long = self.runs.len() >= LEAST_RUNS && self.spent >= least;
+    fn enough(&self, least: Least) -> bool {
+        let long = self.runs.len() >= least.runs && self.spent >= least.time;
         long || self.spent >= MOST_TIME
     }
 
@@ -65,9 +63,22 @@ fn microseconds(time: Duration) -> f64 {
     time.as_secs_f64() * 1e6
 }
 
-/// The median time of a job in each column, in microseconds, each timed for at least so long. The columns
-/// take turns, so that another load of the machine falls on all of them.
-pub fn time(job: &mut Job, columns: &[&Column], least: Duration) -> Vec<f64> {
+/// How often and for how long a column is timed on a pair, at the least.
+#[derive(Clone, Copy)]
+pub struct Least {
+    pub runs: usize,
+    pub time: Duration,
+}
+
+/// What most tables ask for.
+pub const USUAL: Least = Least {
+    runs: 3,
+    time: Duration::from_millis(500),
+};
+
+/// The median time of a job in each column, in microseconds. The columns take turns, so that another load
+/// of the machine falls on all of them.
+pub fn time(job: &mut Job, columns: &[&Column], least: Least) -> Vec<f64> {
     let mut times = Vec::from_iter(columns.iter().map(|_| Times::new()));
     while !times.iter().all(|times| times.enough(least)) {
         for (times, column) in times.iter_mut().zip(columns) {
@@ -194,8 +205,7 @@ pub struct Table {
     /// A pair, and what is promised of it.
     pub promises: &'static [(&'static str, Measure, Limit)],
     pub everywhere: &'static [Everywhere],
-    /// How long a column is timed on a pair, at the least.
-    pub least: Duration,
+    pub least: Least,
 }
 
 /// A row of a table with its times.

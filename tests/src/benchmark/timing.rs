@@ -1,7 +1,7 @@
 //! The time of a comparison: the fast engine beside Wise's port on ordinary pairs, the plain engine beside
 //! the tilings that have no index, and both engines at rising lengths.
 
-use super::table::{shown, time, About, Everywhere, Limit, Measure, Table};
+use super::table::{shown, time, About, Everywhere, Limit, Measure, Table, USUAL};
 use super::{
     all_agree, exponent, head, row, Job, Promises, FAST, LITERAL, PAIR, PLAIN, START, TUNED, WISE,
 };
@@ -12,13 +12,11 @@ use crate::random::Random;
 use crate::reference::MAX_WORDS;
 use crate::samples::call;
 use crate::series;
-use std::time::Duration;
 
 const SEED: u64 = 1;
 const CODES: u16 = 40;
 const MINIMUM: u32 = 8;
 const LENGTHS: [usize; 4] = [256, 512, 1_024, 2_048];
-const LEAST_TIME: Duration = Duration::from_millis(500);
 
 /// The pairs of four codes are compared at this minimum.
 const FOUR_MINIMUM: u32 = 12;
@@ -57,7 +55,7 @@ static ORDINARY: Table = Table {
         ],
         exceptions: &[],
     }],
-    least: LEAST_TIME,
+    least: USUAL,
 };
 
 #[rustfmt::skip]
@@ -79,7 +77,7 @@ static TILINGS: Table = Table {
         others: &[],
         exceptions: &INDEX_CANNOT_PAY,
     }],
-    least: LEAST_TIME,
+    least: USUAL,
 };
 
 /// A comparison at a minimum.
@@ -123,7 +121,7 @@ fn paper(wanted: impl Fn(&series::Row) -> bool) -> impl Iterator<Item = Job> {
 }
 
 /// The pairs of the first table.
-pub fn ordinary() -> Vec<Job> {
+fn ordinary() -> Vec<Job> {
     let random = &mut Random::new(SEED + 1);
     let mut all = Vec::new();
     for job in jobs() {
@@ -162,33 +160,39 @@ pub fn ordinary() -> Vec<Job> {
 }
 
 /// The pairs of the plain engine's table.
-pub fn tilings() -> Vec<Job> {
+fn tilings() -> Vec<Job> {
     let mut all = jobs();
     let longest = ["wc1.5 wc2.5", "wc3.5 wc4.5"];
     all.extend(paper(|row| longest.contains(&&*row.name)));
     all
 }
 
-/// Whether all columns answer alike.
-pub fn agree(ordinary: &mut [Job], tilings: &mut [Job]) -> bool {
-    all_agree(ordinary, &[&[&PLAIN, &TUNED], ORDINARY.columns].concat())
-        & all_agree(tilings, TILINGS.columns)
+/// Whether all columns answer alike on the pairs of the first table, the plain engine and the tuned tiling
+/// too.
+pub fn agree_ordinary() -> bool {
+    let columns = [&[&PLAIN, &TUNED], ORDINARY.columns].concat();
+    all_agree(&mut ordinary(), &columns)
+}
+
+/// Whether all columns answer alike on the pairs of the plain engine's table.
+pub fn agree_tilings() -> bool {
+    all_agree(&mut tilings(), TILINGS.columns)
 }
 
 /// Prints the fast engine's times and those of Wise's port.
-pub fn compare_ordinary(jobs: &mut [Job], promises: &mut Promises) {
+pub fn compare_ordinary(promises: &mut Promises) {
     println!(
-        "Ordinary pairs. Median time of a comparison in microseconds; {MAX_WORDS} words a side unless \
+        "\nOrdinary pairs. Median time of a comparison in microseconds; {MAX_WORDS} words a side unless \
          the name says otherwise, {CODES} codes where they are random (seed {SEED}), minimum {MINIMUM}, \
          that of four codes {FOUR_MINIMUM}, that of the paper's strings 3; first search length {START}.\n"
     );
-    ORDINARY.print(jobs, promises);
+    ORDINARY.print(&mut ordinary(), promises);
 }
 
 /// Prints the plain engine's times and those of the tilings without an index.
-pub fn compare_tilings(jobs: &mut [Job], promises: &mut Promises) {
+pub fn compare_tilings(promises: &mut Promises) {
     println!("\nThe plain engine beside tilings without an index. Median time in microseconds.\n");
-    TILINGS.print(jobs, promises);
+    TILINGS.print(&mut tilings(), promises);
 }
 
 /// Prints each engine's time at rising lengths, and the exponent that fits it.
@@ -204,7 +208,7 @@ pub fn grow() {
     for (name, make) in makers {
         let times = LENGTHS.map(|length| {
             let pair = make(&mut Random::new(SEED), length, CODES);
-            time(&mut job(name, pair), &engines, LEAST_TIME)
+            time(&mut job(name, pair), &engines, USUAL)
         });
         for (at, engine) in engines.iter().enumerate() {
             let times = LENGTHS
