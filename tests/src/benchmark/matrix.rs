@@ -8,7 +8,6 @@ use crate::random::Random;
 use crate::reference::{record, MAX_WORDS};
 use crate::tool::TOOL;
 use sigxume::Comparer;
-use std::io::Write;
 use std::path::{Path, PathBuf};
 use std::process::{Command, Stdio};
 use std::sync::atomic::{AtomicUsize, Ordering};
@@ -107,13 +106,14 @@ fn median(mut times: Vec<f64>) -> f64 {
     times[times.len() / 2]
 }
 
-/// A file of records that is removed in the end.
-struct Scratch(PathBuf);
+/// A file that is removed in the end.
+pub struct Scratch(pub PathBuf);
 
 impl Scratch {
-    fn new(records: &[u8]) -> io::Result<Self> {
-        let path = env::temp_dir().join(format!("sigxume-matrix-{}", process::id()));
-        fs::File::create_new(&path)?.write_all(records)?;
+    /// A new empty file with a name in the system's folder for such files.
+    pub fn new(name: &str) -> io::Result<Self> {
+        let path = env::temp_dir().join(format!("sigxume-{name}-{}", process::id()));
+        fs::File::create_new(&path)?;
         Ok(Self(path))
     }
 }
@@ -131,7 +131,8 @@ pub fn compare_matrix(promises: &mut Promises) -> io::Result<()> {
     let sequences = families(&mut Random::new(SEED), FAMILIES, MAX_WORDS, CODES);
     let records = sequences.iter().zip(0..);
     let records = Vec::from_iter(records.flat_map(|(words, id)| bytes(&record(id, words))));
-    let file = Scratch::new(&records)?;
+    let file = Scratch::new("matrix")?;
+    fs::write(&file.0, records)?;
     let cores = thread::available_parallelism()?.get();
     let counts = [1, cores];
     let mut alone = counts.map(|_| Vec::new());

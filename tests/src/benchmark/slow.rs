@@ -263,7 +263,7 @@ type Found = (&'static str, u32, [u32; 3], [&'static str; 2]);
 const FOUND: [Found; 0] = [];
 
 /// The rows of the table.
-fn jobs() -> Vec<Job> {
+pub fn jobs() -> Vec<Job> {
     let mut jobs = Vec::from_iter(families().into_iter().flat_map(Family::jobs));
     for (name, minimum, [multiplier, buckets, start], texts) in FOUND {
         let pair = texts.map(|text| parse(text).expect("the text of a sequence"));

@@ -2,7 +2,7 @@
 //! that of a cover and of the tool's matrix, and their instructions on the strings of Wise's paper. First all
 //! of them must answer alike, word for word; then the tables are printed, and what was promised of them. The
 //! exit status is 1 where an answer differs or a promise is not kept. Arguments are names of tables: only
-//! those are then made. `climb SECONDS` searches for slow inputs instead.
+//! those are then made. `climb SECONDS [SEED]` searches for slow inputs instead.
 
 use sigxume_tests::benchmark::{climb, counting, cover, matrix, peers, slow, timing, Promises};
 use std::process::ExitCode;
@@ -53,11 +53,13 @@ fn measure(names: &[String]) -> Result<bool, String> {
 }
 
 /// Searches for slow inputs; whether every answer was right.
-fn search(seconds: &str) -> Result<bool, String> {
-    let seconds = seconds
-        .parse()
-        .map_err(|_| format!("{seconds} is no number of seconds"))?;
-    Ok(climb::climb(seconds))
+fn search(numbers: &[String]) -> Result<bool, String> {
+    let numbers = numbers.iter().map(|number| number.parse().ok());
+    match Vec::from_iter(numbers)[..] {
+        [Some(seconds)] => Ok(climb::climb(seconds, 1)),
+        [Some(seconds), Some(seed)] => Ok(climb::climb(seconds, seed)),
+        _ => Err(format!("{} SECONDS [SEED]", climb::CLIMB)),
+    }
 }
 
 fn main() -> ExitCode {
@@ -67,7 +69,7 @@ fn main() -> ExitCode {
             counting::run();
             Ok(true)
         }
-        [climb, seconds] if climb == climb::CLIMB => search(seconds),
+        [climb, numbers @ ..] if climb == climb::CLIMB => search(numbers),
         names => measure(names),
     };
     match done {
