@@ -140,6 +140,13 @@ impl Job {
         raw::compare_fast(first, second, minimum, settings, workspace, tiles)
     }
 
+    /// Whether multiplier and buckets are the library's own.
+    fn has_own_hash(&self) -> bool {
+        let Settings { start, .. } = self.settings;
+        let own = Settings::for_minimum(self.minimum);
+        self.settings == Settings { start, ..own }
+    }
+
     /// Whether a column does the same on another job, which is known by its name.
     fn is_same(&self, other: &Self, column: &Column) -> bool {
         self.name == other.name
@@ -207,7 +214,9 @@ impl Promises {
 
     /// Prints every promise; whether all are kept.
     pub fn report(&self) -> bool {
-        println!("{}", self.verdicts.join("\n"));
+        for verdict in &self.verdicts {
+            println!("{verdict}");
+        }
         self.broken == 0
     }
 }

@@ -28,6 +28,12 @@ const DRAWN: usize = 4;
 /// So many are printed for each engine, each from a beginning of its own.
 const PRINTED: usize = 3;
 
+/// An engine, and whether multiplier and buckets stay the library's own.
+type Searched = (&'static Column, bool);
+
+/// What is searched, one after another.
+const SEARCHED: [Searched; 3] = [(&FAST, true), (&FAST, false), (&PLAIN, true)];
+
 /// A pair and the settings with which it is compared.
 #[derive(Clone)]
 struct Input {
@@ -99,10 +105,10 @@ fn change_side(random: &mut Random, pair: &mut Pair) {
     }
 }
 
-/// Changes one setting.
-fn change_setting(random: &mut Random, input: &mut Input) {
+/// Changes one setting; the first two where the hash stays as it is.
+fn change_setting(random: &mut Random, input: &mut Input, own_hash: bool) {
     let settings = &mut input.settings;
-    match random.below(4) {
+    match random.below(if own_hash { 2 } else { 4 }) {
         0 => input.minimum = length(random, MAX_MINIMUM as usize) as u32,
         1 => {
             let any = length(random, MAX_WORDS) as u32;
@@ -119,17 +125,23 @@ fn change_setting(random: &mut Random, input: &mut Input) {
 
 impl Input {
     /// The slowest input so far with some changes, the slowest of some known ones, or one of few codes.
-    fn start(random: &mut Random, column: &Column, slowest: Option<&Self>) -> Self {
+    fn start(random: &mut Random, searched: Searched, slowest: Option<&Self>) -> Self {
+        let (column, own_hash) = searched;
         if let Some(slowest) = slowest.filter(|_| random.one_in(3)) {
-            return slowest.changed(random);
+            return slowest.changed(random, own_hash);
         }
         let mut known = slow::jobs();
         let some = (0..DRAWN).map(|_| {
             let job = known.swap_remove(random.below(known.len()));
+            let Settings { start, .. } = job.settings;
+            let own = Settings::for_minimum(job.minimum);
             Self {
                 pair: job.pair,
                 minimum: job.minimum,
-                settings: job.settings,
+                settings: match own_hash {
+                    true => Settings { start, ..own },
+                    false => job.settings,
+                },
             }
         });
         let slow = some.max_by_key(|input| input.time(column, 1));
@@ -141,11 +153,11 @@ impl Input {
     }
 
     /// A copy with one change or a few.
-    fn changed(&self, random: &mut Random) -> Self {
+    fn changed(&self, random: &mut Random, own_hash: bool) -> Self {
         let mut input = self.clone();
         for _ in 0..length(random, 8) {
             if random.one_in(5) {
-                change_setting(random, &mut input);
+                change_setting(random, &mut input, own_hash);
             } else {
                 change_side(random, &mut input.pair);
             }
@@ -214,13 +226,13 @@ impl Input {
 fn climb_once(
     random: &mut Random,
     mut input: Input,
-    column: &Column,
+    (column, own_hash): Searched,
     end: Instant,
 ) -> Option<(Duration, Input)> {
     let mut time = input.time(column, 2);
     let mut failed = 0;
     while failed < PATIENCE && Instant::now() < end {
-        let next = input.changed(random);
+        let next = input.changed(random, own_hash);
         failed += 1;
         // A single run may be slow by chance; two more must be slow too.
         if next.time(column, 1) > time {
@@ -238,24 +250,30 @@ fn climb_once(
     Some((time, input))
 }
 
-/// Searches for so many seconds, half of them for each engine; whether every tiling that was compared was
-/// right.
+/// Searches for so many seconds, a third of them for each that is searched; whether every tiling that was
+/// compared was right.
 pub fn climb(seconds: u64, seed: u64) -> bool {
     println!("Slow inputs found in {seconds} seconds, seed {seed}.");
     let random = &mut Random::new(seed);
-    for column in [&FAST, &PLAIN] {
-        let end = Instant::now() + Duration::from_secs(seconds) / 2;
+    for searched in SEARCHED {
+        let (column, own_hash) = searched;
+        let end = Instant::now() + Duration::from_secs(seconds) / SEARCHED.len() as u32;
         let mut found: Vec<(Duration, Input)> = Vec::new();
         while Instant::now() < end {
             let slowest = found.first().map(|(_, input)| input);
-            let start = Input::start(random, column, slowest);
-            match climb_once(random, start, column, end) {
+            let start = Input::start(random, searched, slowest);
+            match climb_once(random, start, searched, end) {
                 Some(reached) => found.push(reached),
                 None => return false,
             }
             found.sort_by_key(|(time, _)| std::cmp::Reverse(*time));
         }
-        println!("\n{}: begun {} times.", column.name, found.len());
+        let hash = if own_hash {
+            "the library's hash"
+        } else {
+            "any hash"
+        };
+        println!("\n{}, {hash}: begun {} times.", column.name, found.len());
         for (_, input) in found.iter().take(PRINTED) {
             if !input.is_right(column) {
                 println!("FAILED {}: other tiles than {}", column.name, WISE.name);

@@ -56,6 +56,7 @@ static TABLE: Table = Table {
     everywhere: &[Everywhere {
         measure: Measure::Ratio(&COVER, &FAST),
         most: 1.15,
+        own_hash: false,
         others: &[],
         exceptions: &[],
     }],

@@ -79,7 +79,7 @@ pub fn shown(words: &[u32]) -> String {
         let repeated = periods.map(|period| (period, repeats(rest, period)));
         // Of those that go equally far the shortest is the last.
         let farthest = repeated
-            .filter(|&(_, times)| times > 1)
+            .filter(|&(period, times)| times > if period == 1 { 1 } else { 2 })
             .rev()
             .max_by_key(|(period, times)| period * times);
         let (period, times) = farthest.unwrap_or((1, 1));

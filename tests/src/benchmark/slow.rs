@@ -28,18 +28,21 @@ static TABLE: Table = Table {
         Everywhere {
             measure: Measure::Ratio(&FAST, &WISE),
             most: 2.0,
+            own_hash: true,
             others: &[],
             exceptions: &[],
         },
         Everywhere {
             measure: Measure::Milliseconds(&FAST),
             most: 100.0,
+            own_hash: false,
             others: &[],
             exceptions: &[],
         },
         Everywhere {
             measure: Measure::Milliseconds(&PLAIN),
             most: 90.0,
+            own_hash: false,
             others: &[],
             exceptions: &[],
         },

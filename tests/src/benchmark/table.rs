@@ -188,6 +188,8 @@ impl Limit {
 pub struct Everywhere {
     pub measure: Measure,
     pub most: f64,
+    /// Whether it is promised only where multiplier and buckets are the library's own.
+    pub own_hash: bool,
     /// The pairs with another limit.
     pub others: &'static [(&'static str, f64)],
     /// The pairs that are excepted from it, each with the reason.
@@ -213,6 +215,8 @@ struct Timed {
     name: String,
     /// The name with the settings that the table shows.
     label: String,
+    /// Whether multiplier and buckets are the library's own.
+    own_hash: bool,
     times: Vec<f64>,
 }
 
@@ -258,7 +262,7 @@ impl Table {
     /// breaks the promise by itself, all others in one line.
     fn note_everywhere(&self, all: &Everywhere, rows: &[Timed], promises: &mut Promises) {
         let (mut kept, mut worst) = (0, None);
-        for row in rows {
+        for row in rows.iter().filter(|row| row.own_hash || !all.own_hash) {
             let (measured, what) = self.measured(row, &all.measure);
             let own = all.others.iter().find(|(name, _)| *name == row.name);
             let limit = Limit::AtMost(own.map_or(all.most, |(_, most)| *most));
@@ -352,6 +356,7 @@ impl Table {
                 times: self.times(job, before),
                 name: job.name.clone(),
                 label: self.label(job),
+                own_hash: job.has_own_hash(),
             };
             let mut cells = self.about(job);
             cells.extend(timed.times.iter().map(|&time| shown(time)));

@@ -44,6 +44,7 @@ static ORDINARY: Table = Table {
     everywhere: &[Everywhere {
         measure: Measure::Ratio(&FAST, &WISE),
         most: 1.0,
+        own_hash: false,
         others: &[
             ("related", 0.6),
             ("unrelated", 0.6),
@@ -74,6 +75,7 @@ static TILINGS: Table = Table {
     everywhere: &[Everywhere {
         measure: Measure::Ratio(&FAST, &PLAIN),
         most: 1.0,
+        own_hash: false,
         others: &[],
         exceptions: &INDEX_CANNOT_PAY,
     }],

@@ -16,7 +16,7 @@ type Row = (
 
 /// The tables in their order.
 #[rustfmt::skip]
-const TABLES: [Row; 8] = [
+const TABLES: [Row; 9] = [
     ("ordinary", timing::agree_ordinary, |promises| { timing::compare_ordinary(promises); Ok(()) }),
     ("tilings", timing::agree_tilings, |promises| { timing::compare_tilings(promises); Ok(()) }),
     ("growth", || true, |_| { timing::grow(); Ok(()) }),
@@ -24,6 +24,7 @@ const TABLES: [Row; 8] = [
     ("cover", cover::agree, |promises| { cover::compare_cover(promises); Ok(()) }),
     ("peers", || true, |_| peers::compare_peers().map_err(|error| error.to_string())),
     ("matrix", || true, |promises| matrix::compare_matrix(promises).map_err(|error| error.to_string())),
+    ("large", || true, |_| matrix::compare_large().map_err(|error| error.to_string())),
     ("counts", counting::agree, |promises| counting::compare_counts(promises).map_err(|error| error.to_string())),
 ];
 
