@@ -67,7 +67,7 @@ const EVERY_HASH: &[(u32, &[u32])] = &[(1_024, &MULTIPLIERS), (1, &MULTIPLIERS)]
 const SOME_HASHES: &[(u32, &[u32])] = &[(1_024, &MULTIPLIERS), (1, &[257])];
 
 impl Family {
-    /// A family that is compared at one minimum.
+    /// A family that is compared with some hashes.
     fn new(name: &'static str, pair: Pair, lengths: &'static [(u32, &'static [u32])]) -> Self {
         let hashes = SOME_HASHES;
         Self {
@@ -98,15 +98,15 @@ impl Family {
     }
 }
 
-/// Stretches of 40, 41, 42, .. calls of one code with a call of another after each.
-fn stretches() -> Vec<u32> {
+/// Stretches of so many calls of one code, one more, two more, .. with a call of another after each.
+fn stretches(from: usize) -> Vec<u32> {
     let stretch = |length| [vec![call(1); length], vec![call(2)]].concat();
-    (40..).flat_map(stretch).take(MAX_WORDS).collect()
+    (from..).flat_map(stretch).take(MAX_WORDS).collect()
 }
 
 /// The same stretches in another order.
 fn stretches_in_disorder(random: &mut Random) -> Vec<u32> {
-    let words = stretches();
+    let words = stretches(40);
     let parts = Vec::from_iter(words.split_inclusive(|&word| word == call(2)));
     let order = shuffled(random, parts.len());
     Vec::from_iter(order.into_iter().map(|at| parts[at])).concat()
@@ -212,10 +212,20 @@ pub fn families() -> Vec<Family> {
     vec![
         Family {
             name: "stretches against one code",
-            pair: [one_code.clone(), stretches()],
+            pair: [one_code.clone(), stretches(40)],
             lengths: &[(38, &[38, 1_768, 1_829, 2_048]), (8, &[START, 2_048])],
             hashes: EVERY_HASH,
         },
+        Family::new(
+            "stretches from 20 on",
+            [one_code.clone(), stretches(20)],
+            &[(38, &[600]), (1, &[START])],
+        ),
+        Family::new(
+            "stretches from 60 on",
+            [one_code.clone(), stretches(60)],
+            &[(38, &[1_768])],
+        ),
         Family {
             name: "one code, broken",
             pair: [one_code, broken(1, MAX_WORDS)],
@@ -224,7 +234,7 @@ pub fn families() -> Vec<Family> {
         },
         Family::new(
             "stretches in two orders",
-            [stretches(), stretches_in_disorder(random)],
+            [stretches(40), stretches_in_disorder(random)],
             &[(8, &[START, 2_048])],
         ),
         Family::new(
@@ -263,7 +273,17 @@ pub fn families() -> Vec<Family> {
 /// its sequences.
 type Found = (&'static str, u32, [u32; 3], [&'static str; 2]);
 
-const FOUND: [Found; 0] = [];
+#[rustfmt::skip]
+const FOUND: [Found; 2] = [
+    ("found by search, 1", 70, [1 << 31, 1_021, 70], [
+        "2x3 4x38 1x8 4x163 2 4x1835",
+        "4x47 5 4x520 1 4x288 1 4x288 1 4x288 1 4x288 1 4x323",
+    ]),
+    ("found by search, 2", 110, [257, 1_024, 110], [
+        "1x2048",
+        "1x279 - 1x110 2x2 1x10 - 1x215 - 1x128 - 1x128 - 1x161 - 1x11 5 1x143 - 1x127 - 1x127 - 1x127 - 1x205 - 1x202 - 1x60",
+    ]),
+];
 
 /// The rows of the table.
 pub fn jobs() -> Vec<Job> {
