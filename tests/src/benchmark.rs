@@ -40,7 +40,7 @@ enum Heeds {
 pub static PLAIN: Column = Column {
     name: "plain engine",
     run: |job| {
-        let [first, second] = &job.pair;
+        let [first, second] = &job.pairs[job.at];
         let (workspace, tiles) = (&mut job.workspace, &mut job.tiles);
         raw::compare_plain(first, second, job.minimum, workspace, tiles)
     },
@@ -70,7 +70,7 @@ pub static PAIR: Column = Column {
 pub static WISE: Column = Column {
     name: "Wise's port",
     run: |job| {
-        let [first, second] = &job.pair;
+        let [first, second] = &job.pairs[job.at];
         let (workspace, tiles) = (&mut job.workspace, &mut job.tiles);
         let start = job.settings.start;
         wise::compare(first, second, job.minimum, start, workspace, tiles)
@@ -80,7 +80,7 @@ pub static WISE: Column = Column {
 pub static TUNED: Column = Column {
     name: "tuned tiling",
     run: |job| {
-        let [first, second] = &job.pair;
+        let [first, second] = &job.pairs[job.at];
         let (workspace, tiles) = (&mut job.workspace, &mut job.tiles);
         tuned::compare(first, second, job.minimum, workspace, tiles)
     },
@@ -89,7 +89,7 @@ pub static TUNED: Column = Column {
 pub static LITERAL: Column = Column {
     name: "literal tiling",
     run: |job| {
-        let [first, second] = &job.pair;
+        let [first, second] = &job.pairs[job.at];
         let (workspace, tiles) = (&mut job.workspace, &mut job.tiles);
         reference::compare_plain(first, second, job.minimum, workspace, tiles)
     },
@@ -99,9 +99,14 @@ pub static LITERAL: Column = Column {
 /// A comparison, and the buffers lent to it, of exactly the size asked for; that for a cover is filled by
 /// those columns that give one. Between comparisons nothing clears them; each comparison leaves the
 /// workspace zero.
+///
+/// There may be several pairs of one kind and of the same lengths, which are compared in turn: a processor
+/// soon knows the branches of a single pair by heart, and the columns would gain from that unequally.
 pub struct Job {
     name: String,
-    pair: Pair,
+    pairs: Vec<Pair>,
+    /// The pair that is compared.
+    at: usize,
     minimum: u32,
     settings: Settings,
     workspace: Vec<u32>,
@@ -111,16 +116,17 @@ pub struct Job {
 
 impl Job {
     /// With the library's own multiplier and buckets.
-    pub fn new(name: &str, pair: Pair, minimum: u32, start: u32) -> Self {
+    pub fn new(name: &str, pairs: Vec<Pair>, minimum: u32, start: u32) -> Self {
         let own = Settings::for_minimum(minimum);
-        Self::with(name, pair, minimum, Settings { start, ..own })
+        Self::with(name, pairs, minimum, Settings { start, ..own })
     }
 
-    pub fn with(name: &str, pair: Pair, minimum: u32, settings: Settings) -> Self {
-        let [n, m] = pair.each_ref().map(Vec::len);
+    pub fn with(name: &str, pairs: Vec<Pair>, minimum: u32, settings: Settings) -> Self {
+        let [n, m] = pairs[0].each_ref().map(Vec::len);
         Self {
             name: name.to_string(),
-            pair,
+            pairs,
+            at: 0,
             minimum,
             settings,
             workspace: vec![0; workspace_words(n, m)],
@@ -133,9 +139,18 @@ impl Job {
         black_box((column.run)(black_box(self)))
     }
 
+    /// Runs and goes on to the next pair.
+    fn run_in_turn(&mut self, column: &Column) {
+        self.run(column);
+        self.at += 1;
+        if self.at == self.pairs.len() {
+            self.at = 0;
+        }
+    }
+
     /// A comparison of the pair by the fast engine.
     fn compare_fast(&mut self, minimum: u32, settings: Settings) -> Compared {
-        let [first, second] = &self.pair;
+        let [first, second] = &self.pairs[self.at];
         let (workspace, tiles) = (&mut self.workspace, &mut self.tiles);
         raw::compare_fast(first, second, minimum, settings, workspace, tiles)
     }
@@ -168,8 +183,19 @@ impl Job {
         (answer, left.map(Vec::clone))
     }
 
-    /// Whether the columns accept the pair, give the same answers and tiles and leave the same words.
+    /// Whether the columns accept the pairs, give the same answers and tiles and leave the same words.
     fn agree(&mut self, columns: &[&Column]) -> bool {
+        let pairs = 0..self.pairs.len();
+        let good = pairs.fold(true, |all, at| {
+            self.at = at;
+            all & self.agree_here(columns)
+        });
+        self.at = 0;
+        good
+    }
+
+    /// The same of one pair.
+    fn agree_here(&mut self, columns: &[&Column]) -> bool {
         let outcomes = Vec::from_iter(columns.iter().map(|column| self.outcome(column)));
         let mut good = true;
         for (column, outcome) in columns.iter().zip(&outcomes) {

@@ -132,11 +132,11 @@ impl Input {
         }
         let mut known = slow::jobs();
         let some = (0..DRAWN).map(|_| {
-            let job = known.swap_remove(random.below(known.len()));
+            let mut job = known.swap_remove(random.below(known.len()));
             let Settings { start, .. } = job.settings;
             let own = Settings::for_minimum(job.minimum);
             Self {
-                pair: job.pair,
+                pair: job.pairs.swap_remove(0),
                 minimum: job.minimum,
                 settings: match own_hash {
                     true => Settings { start, ..own },
@@ -166,7 +166,8 @@ impl Input {
     }
 
     fn job(&self) -> Job {
-        Job::with("climbed", self.pair.clone(), self.minimum, self.settings)
+        let pairs = vec![self.pair.clone()];
+        Job::with("climbed", pairs, self.minimum, self.settings)
     }
 
     /// What a column takes, the shortest of so many runs.

@@ -41,7 +41,7 @@ pub fn sigxume_counted(job: &mut Job, column: &Column) -> Compared {
 /// The comparison of a row with one of its first search lengths.
 fn job(row: &Row, start: usize) -> Job {
     let start = row.starts()[start];
-    Job::new(&row.name, row.pair.clone(), row.minimum, start)
+    Job::new(&row.name, vec![row.pair.clone()], row.minimum, start)
 }
 
 /// Whether all columns answer alike on every row, and the port of Wise's program queues as many maximal

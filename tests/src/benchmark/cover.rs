@@ -21,7 +21,7 @@ const MINIMUM: u32 = 1;
 static COVER: Column = Column {
     name: "cover",
     run: |job| {
-        let [first, second] = &job.pair;
+        let [first, second] = &job.pairs[job.at];
         let settings = Settings::for_minimum(MINIMUM);
         let (workspace, tiles) = (&mut job.workspace, &mut job.tiles);
         raw::cover_fast(first, second, settings, workspace, tiles, &mut job.cover)
@@ -68,7 +68,7 @@ fn jobs() -> Vec<Job> {
     let pairs = timing::jobs().into_iter();
     let covered = pairs.filter(|job| PAIRS.contains(&&*job.name));
     covered
-        .map(|job| Job::new(&job.name, job.pair, MINIMUM, START))
+        .map(|job| Job::new(&job.name, job.pairs, MINIMUM, START))
         .collect()
 }
 

@@ -108,7 +108,7 @@ fn text(words: &[u32]) -> String {
 /// The median time of a peer on a pair and the covered words, as they are shown.
 fn cells(job: &Job, compare: Compare) -> io::Result<[String; 2]> {
     let files = [Scratch::new("first")?, Scratch::new("second")?];
-    for (file, words) in files.iter().zip(&job.pair) {
+    for (file, words) in files.iter().zip(&job.pairs[0]) {
         fs::write(&file.0, text(words))?;
     }
     let mut times = Vec::new();
@@ -134,6 +134,7 @@ pub fn compare_peers() -> io::Result<()> {
     );
     let mut jobs = timing::jobs();
     jobs.retain(|job| PAIRS.contains(&&*job.name));
+    jobs.iter_mut().for_each(|job| job.pairs.truncate(1));
     let mut titles = vec!["Peer".to_string()];
     titles.extend(
         PAIRS

@@ -89,7 +89,8 @@ impl Family {
                             buckets,
                             start,
                         };
-                        jobs.push(Job::with(self.name, self.pair.clone(), minimum, settings));
+                        let pairs = vec![self.pair.clone()];
+                        jobs.push(Job::with(self.name, pairs, minimum, settings));
                     }
                 }
             }
@@ -295,7 +296,7 @@ pub fn jobs() -> Vec<Job> {
             buckets,
             start,
         };
-        jobs.push(Job::with(name, pair, minimum, settings));
+        jobs.push(Job::with(name, vec![pair], minimum, settings));
     }
     jobs
 }

@@ -40,7 +40,7 @@ impl Times {
         while turn.elapsed() < TURN {
             let start = Instant::now();
             for _ in 0..self.batch {
-                job.run(column);
+                job.run_in_turn(column);
             }
             let time = start.elapsed();
             if time < LEAST_BATCH {
@@ -309,8 +309,9 @@ impl Table {
         label
     }
 
-    /// The cells of a job before its times.
+    /// The cells of a job before its times; tiles and covered are those of its first pair.
     fn about(&self, job: &mut Job) -> Vec<String> {
+        job.at = 0;
         let answer = job.run(self.columns[0]);
         let mut cells = vec![job.name.clone()];
         for about in self.about {

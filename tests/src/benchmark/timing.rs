@@ -16,6 +16,8 @@ use crate::series;
 const SEED: u64 = 1;
 const CODES: u16 = 40;
 const MINIMUM: u32 = 8;
+/// Of random pairs there are so many of each kind, which are compared in turn.
+const PAIRS: usize = 16;
 const LENGTHS: [usize; 4] = [256, 512, 1_024, 2_048];
 
 /// The pairs of four codes are compared at this minimum.
@@ -82,82 +84,126 @@ static TILINGS: Table = Table {
     least: USUAL,
 };
 
+/// Pairs that are compared in turn, with their name.
+type Kind = (String, Vec<Pair>);
+
 /// A comparison at a minimum.
-fn at_minimum(name: &str, pair: Pair, minimum: u32) -> Job {
-    Job::new(name, pair, minimum, START.max(minimum))
+fn at_minimum(name: &str, pairs: Vec<Pair>, minimum: u32) -> Job {
+    Job::new(name, pairs, minimum, START.max(minimum))
 }
 
 /// A comparison at the minimum of most.
-fn job(name: &str, pair: Pair) -> Job {
-    at_minimum(name, pair, MINIMUM)
+fn job((name, pairs): Kind) -> Job {
+    at_minimum(&name, pairs, MINIMUM)
+}
+
+/// Random pairs of some kinds, made by so many generators: one of each kind by each.
+fn kinds(seed: u64, make: impl Fn(&mut Random) -> Vec<(&'static str, Pair)>) -> Vec<Kind> {
+    let mut kinds: Vec<Kind> = Vec::new();
+    for seed in (seed..).step_by(100).take(PAIRS) {
+        for (at, (name, pair)) in make(&mut Random::new(seed)).into_iter().enumerate() {
+            if kinds.len() == at {
+                kinds.push((name.to_string(), Vec::new()));
+            }
+            kinds[at].1.push(pair);
+        }
+    }
+    kinds
+}
+
+/// The random pairs that several tables have.
+fn usual(random: &mut Random) -> Vec<(&'static str, Pair)> {
+    let whole = calls(random, MAX_WORDS, CODES);
+    vec![
+        ("related", related(random, MAX_WORDS, CODES)),
+        ("unrelated", unrelated(random, MAX_WORDS, CODES)),
+        ("identical", [whole.clone(), whole]),
+        ("short, 32 words", related(random, 32, CODES)),
+        ("short, 64 words", related(random, 64, CODES)),
+        ("short, 128 words", related(random, 128, CODES)),
+        ("short, 256 words", related(random, 256, CODES)),
+    ]
+}
+
+/// The random pairs that only the first table has.
+fn further(random: &mut Random) -> Vec<(&'static str, Pair)> {
+    let long = calls(random, MAX_WORDS, CODES);
+    let [start, length] = PART;
+    let part = relative(random, &long[start..start + length], CODES);
+    let four = calls(random, MAX_WORDS, 4);
+    let copy = edited(random, &four, 4, 50);
+    let mut with_gaps = |one_in| {
+        let pair = related(random, MAX_WORDS, CODES);
+        pair.map(|words| with_no_calls(random, words, one_in))
+    };
+    let (few, many) = (with_gaps(20), with_gaps(4));
+    vec![
+        ("2,048 against 64 words", [long, part]),
+        ("four codes, related", [four, copy]),
+        ("four codes, unrelated", unrelated(random, MAX_WORDS, 4)),
+        ("related, 1 no-call in 20", few),
+        ("related, 1 no-call in 4, minimum 3", many),
+    ]
 }
 
 /// The pairs that are not the paper's and that several tables have, at the minimum of most.
 pub fn jobs() -> Vec<Job> {
-    let random = &mut Random::new(SEED);
-    let whole = calls(random, MAX_WORDS, CODES);
     let one_code = vec![call(1); MAX_WORDS];
     let broken = broken(1, MAX_WORDS);
     let phases = [0, 3].map(|phase| periodic(MAX_WORDS, 7, phase));
-    let mut jobs = vec![
-        job("related", related(random, MAX_WORDS, CODES)),
-        job("unrelated", unrelated(random, MAX_WORDS, CODES)),
-        job("identical", [whole.clone(), whole]),
-        job("one code", [one_code.clone(), one_code.clone()]),
-        job("one code, broken", [one_code, broken]),
-        job("periodic", phases),
+    let single = [
+        ("one code", [one_code.clone(), one_code.clone()]),
+        ("one code, broken", [one_code, broken]),
+        ("periodic", phases),
     ];
-    for length in [32, 64, 128, 256] {
-        let name = format!("short, {length} words");
-        jobs.push(job(&name, related(random, length, CODES)));
+    let mut all = kinds(SEED, usual);
+    let shorts = all.split_off(3);
+    all.extend(single.map(|(name, pair)| (name.to_string(), vec![pair])));
+    all.extend(shorts);
+    all.into_iter().map(job).collect()
+}
+
+/// The paper's strings of some rows. Of the random ones there are several, in different orders.
+fn paper(wanted: impl Fn(&series::Row) -> bool) -> Vec<Job> {
+    let mut jobs = Vec::new();
+    for (copies, row) in (1..).zip(series::rows().into_iter().filter(wanted)) {
+        let pairs = match row.series {
+            "random" => {
+                let seeds = (copies as u64..).step_by(100).take(PAIRS);
+                seeds.map(|seed| series::shuffled(copies, seed)).collect()
+            }
+            _ => vec![row.pair],
+        };
+        jobs.push(Job::new(&row.name, pairs, row.minimum, START));
     }
     jobs
 }
 
-/// The paper's strings of some rows.
-fn paper(wanted: impl Fn(&series::Row) -> bool) -> impl Iterator<Item = Job> {
-    let rows = series::rows().into_iter().filter(wanted);
-    Vec::from_iter(rows)
-        .into_iter()
-        .map(|row| Job::new(&row.name, row.pair, row.minimum, START))
-}
-
 /// The pairs of the first table.
 fn ordinary() -> Vec<Job> {
-    let random = &mut Random::new(SEED + 1);
     let mut all = Vec::new();
     for job in jobs() {
-        let pair = job.pair.clone();
+        let pairs = job.pairs.clone();
         match &*job.name {
             "one code, broken" => (),
             "related" => {
                 all.push(job);
-                all.push(at_minimum("related, minimum 3", pair.clone(), 3));
-                all.push(at_minimum("related, minimum 1", pair, 1));
+                all.push(at_minimum("related, minimum 3", pairs.clone(), 3));
+                all.push(at_minimum("related, minimum 1", pairs, 1));
             }
             _ => all.push(job),
         }
     }
-    let long = calls(random, MAX_WORDS, CODES);
-    let [start, length] = PART;
-    let part = relative(random, &long[start..start + length], CODES);
-    all.push(job("2,048 against 64 words", [long, part]));
-    let four = calls(random, MAX_WORDS, 4);
-    let copy = edited(random, &four, 4, 50);
-    let four_codes = [
-        ("four codes, related", [four, copy]),
-        ("four codes, unrelated", unrelated(random, MAX_WORDS, 4)),
-    ];
-    all.extend(four_codes.map(|(name, pair)| at_minimum(name, pair, FOUR_MINIMUM)));
-    for (name, one_in, minimum) in [
-        ("related, 1 no-call in 20", 20, MINIMUM),
-        ("related, 1 no-call in 4, minimum 3", 4, 3),
-    ] {
-        let pair = related(random, MAX_WORDS, CODES);
-        let pair = pair.map(|words| with_no_calls(random, words, one_in));
-        all.push(at_minimum(name, pair, minimum));
+    for (name, pairs) in kinds(SEED + 1, further) {
+        let minimum = match &*name {
+            "four codes, related" | "four codes, unrelated" => FOUR_MINIMUM,
+            "related, 1 no-call in 4, minimum 3" => 3,
+            _ => MINIMUM,
+        };
+        all.push(at_minimum(&name, pairs, minimum));
     }
-    all.extend(paper(|row| ["random", "wc1", "wc3"].contains(&row.series)));
+    all.extend(paper(|row| row.series == "random"));
+    all.extend(paper(|row| ["wc1", "wc3"].contains(&row.series)));
     all
 }
 
@@ -185,7 +231,7 @@ pub fn agree_tilings() -> bool {
 pub fn compare_ordinary(promises: &mut Promises) {
     println!(
         "\nOrdinary pairs. Median time of a comparison in microseconds; {MAX_WORDS} words a side unless \
-         the name says otherwise, {CODES} codes where they are random (seed {SEED}), minimum {MINIMUM}, \
+         the name says otherwise, {CODES} codes and {PAIRS} pairs in turn where they are random (seed {SEED}), minimum {MINIMUM}, \
          that of four codes {FOUR_MINIMUM}, that of the paper's strings 3; first search length {START}.\n"
     );
     ORDINARY.print(&mut ordinary(), promises);
@@ -209,8 +255,9 @@ pub fn grow() {
     head(&titles);
     for (name, make) in makers {
         let times = LENGTHS.map(|length| {
-            let pair = make(&mut Random::new(SEED), length, CODES);
-            time(&mut job(name, pair), &engines, USUAL)
+            let kind = kinds(SEED, |random| vec![(name, make(random, length, CODES))]);
+            let mut jobs = kind.into_iter().map(job);
+            time(&mut jobs.next().expect("a kind"), &engines, USUAL)
         });
         for (at, engine) in engines.iter().enumerate() {
             let times = LENGTHS
