@@ -23,7 +23,7 @@ const PATIENCE: usize = 80;
 const CHECKED: usize = 50;
 
 /// Of so many known inputs the slowest is begun with.
-const DRAWN: usize = 4;
+const DRAWN: usize = 12;
 
 /// So many are printed for each engine, each from a beginning of its own.
 const PRINTED: usize = 3;
@@ -155,7 +155,7 @@ impl Input {
     /// A copy with one change or a few.
     fn changed(&self, random: &mut Random, own_hash: bool) -> Self {
         let mut input = self.clone();
-        for _ in 0..length(random, 8) {
+        for _ in 0..length(random, 4) {
             if random.one_in(5) {
                 change_setting(random, &mut input, own_hash);
             } else {

@@ -4,7 +4,7 @@
 
 use super::matrix::Scratch;
 use super::table::{self, shown};
-use super::{head, row, timing, Job, FAST};
+use super::{grouped, head, row, timing, Job, FAST};
 use std::path::Path;
 use std::process::Command;
 use std::time::Instant;
@@ -123,7 +123,7 @@ fn cells(job: &Job, compare: Compare) -> io::Result<[String; 2]> {
         }
     }
     times.sort_unstable_by(f64::total_cmp);
-    Ok([shown(times[times.len() / 2]), covered.to_string()])
+    Ok([shown(times[times.len() / 2]), grouped(covered as u64)])
 }
 
 /// Prints the times of the fast engine and of its peers, and what they answer.
@@ -147,7 +147,7 @@ pub fn compare_peers() -> io::Result<()> {
     for job in &mut jobs {
         let covered = job.run(&FAST).covered;
         let times = table::time(job, &[&FAST], table::USUAL);
-        engine.extend([shown(times[0]), covered.to_string()]);
+        engine.extend([shown(times[0]), grouped(covered.into())]);
     }
     engine.extend(["found", "yes", "yes", "yes", "yes"].map(String::from));
     row(&engine);
