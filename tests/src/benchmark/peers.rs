@@ -25,8 +25,9 @@ const QUESTIONS: [&str; 5] = [
     "proved",
 ];
 
-/// A way to compare two files of words: the time in microseconds and the covered words of the first.
-type Compare = fn(&Path, &Path) -> io::Result<Option<(f64, usize)>>;
+/// A way to compare two files of words: the time in microseconds and the covered words of the first, or what
+/// is shown in their place.
+type Compare = fn(&Path, &Path) -> Result<(f64, usize), &'static str>;
 
 /// A peer, and its answers to the questions.
 struct Peer {
@@ -60,22 +61,19 @@ time = time.perf_counter() - start
 print(time * 1e6, sum(block.size for block in matcher.get_matching_blocks()))
 ";
 
-/// What a command prints; nothing where it is not installed.
-fn printed(command: &mut Command) -> io::Result<Option<String>> {
+/// What a command prints, or what is shown in its place.
+fn printed(command: &mut Command) -> Result<String, &'static str> {
     match command.output() {
-        Err(error) if error.kind() == io::ErrorKind::NotFound => Ok(None),
-        Err(error) => Err(error),
         Ok(output) if output.status.success() => {
-            Ok(Some(String::from_utf8_lossy(&output.stdout).into_owned()))
+            Ok(String::from_utf8_lossy(&output.stdout).into_owned())
         }
-        Ok(output) => Err(io::Error::other(
-            String::from_utf8_lossy(&output.stderr).into_owned(),
-        )),
+        Err(error) if error.kind() == io::ErrorKind::NotFound => Err("not installed"),
+        _ => Err("does not run"),
     }
 }
 
 /// The runs that the first file has in common with the second, each with its length in brackets.
-fn sim_text(first: &Path, second: &Path) -> io::Result<Option<(f64, usize)>> {
+fn sim_text(first: &Path, second: &Path) -> Result<(f64, usize), &'static str> {
     let start = Instant::now();
     let mut command = Command::new("sim_text");
     let command = command.args(["-r8", "-n", "-s", "-T"]);
@@ -85,18 +83,18 @@ fn sim_text(first: &Path, second: &Path) -> io::Result<Option<(f64, usize)>> {
         let (_, length) = line.rsplit_once('[')?;
         length.strip_suffix(']')?.parse().ok()
     };
-    Ok(runs.map(|runs| (time, runs.lines().filter_map(length).sum())))
+    Ok((time, runs.lines().filter_map(length).sum()))
 }
 
 /// The blocks that the files have in common in the same order.
-fn difflib(first: &Path, second: &Path) -> io::Result<Option<(f64, usize)>> {
+fn difflib(first: &Path, second: &Path) -> Result<(f64, usize), &'static str> {
     let mut command = Command::new("python3");
     let said = printed(command.args(["-c", DIFFLIB]).arg(first).arg(second))?;
-    let numbers = said.and_then(|said| {
-        let (time, covered) = said.trim().split_once(' ')?;
-        Some((time.parse().ok()?, covered.parse().ok()?))
+    let numbers = said.trim().split_once(' ').and_then(|(time, covered)| {
+        let (time, covered) = (time.parse().ok()?, covered.parse().ok()?);
+        Some((time, covered))
     });
-    Ok(numbers)
+    numbers.ok_or("does not run")
 }
 
 /// The words of a sequence as a text.
@@ -114,12 +112,12 @@ fn cells(job: &Job, compare: Compare) -> io::Result<[String; 2]> {
     let mut times = Vec::new();
     let mut covered = 0;
     for _ in 0..RUNS {
-        match compare(&files[0].0, &files[1].0)? {
-            Some((time, words)) => {
+        match compare(&files[0].0, &files[1].0) {
+            Ok((time, words)) => {
                 times.push(time);
                 covered = words;
             }
-            None => return Ok(["not installed".to_string(), "-".to_string()]),
+            Err(instead) => return Ok([instead.to_string(), "-".to_string()]),
         }
     }
     times.sort_unstable_by(f64::total_cmp);
