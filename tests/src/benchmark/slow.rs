@@ -60,11 +60,14 @@ pub struct Family {
     pub hashes: &'static [(u32, &'static [u32])],
 }
 
-/// Every multiplier with as many buckets as there may be, and with one.
-const EVERY_HASH: &[(u32, &[u32])] = &[(1_024, &MULTIPLIERS), (1, &MULTIPLIERS)];
+/// The library's own bucket count, which is the same at every minimum.
+const OWN: u32 = Settings::for_minimum(1).buckets;
 
-/// Every multiplier with as many buckets as there may be, and one bucket.
-const SOME_HASHES: &[(u32, &[u32])] = &[(1_024, &MULTIPLIERS), (1, &[257])];
+/// Every multiplier with the library's buckets, and with one.
+const EVERY_HASH: &[(u32, &[u32])] = &[(OWN, &MULTIPLIERS), (1, &MULTIPLIERS)];
+
+/// Every multiplier with the library's buckets, and the pair program's with one.
+const SOME_HASHES: &[(u32, &[u32])] = &[(OWN, &MULTIPLIERS), (1, &[257])];
 
 impl Family {
     /// A family that is compared with some hashes.
