@@ -2,7 +2,7 @@
 SHELL := /bin/bash
 .SHELLFLAGS := -euo pipefail -c
 .ONESHELL:
-.PHONY: pair tool library example test bench fuzz check clean
+.PHONY: pair tool library example test bench climb fuzz check clean
 
 # The programs that each target needs. What is missing is named before anything is begun.
 needs-pair := rt
@@ -11,6 +11,7 @@ needs-example := rt cc
 needs-tool := rt cargo cc
 needs-test := rt cargo cc objdump python3 script
 needs-bench := rt cargo cc valgrind
+needs-climb := rt cargo cc
 needs-fuzz := rt clang
 needs-check := rt
 missing = $(strip $(foreach program,$(needs-$1),$(if $(shell command -v $(program)),,$(program))))
@@ -81,6 +82,13 @@ test:
 # not kept.
 bench: tool
 	@cargo run --quiet --release --bin benchmark
+
+# Searches for inputs on which the engines are slow, for CLIMB_SECONDS, and prints the slowest as text from which they can be made
+# again; fails where a tiling differs from that of the port of Wise's program.
+CLIMB_SECONDS ?= 600
+CLIMB_SEED ?= 1
+climb: library
+	@cargo run --quiet --release --bin benchmark climb $(CLIMB_SECONDS) $(CLIMB_SEED)
 
 # Tries the C interface with libFuzzer for FUZZ_SECONDS, from the corpus that earlier runs left in target/fuzz.
 FUZZ_SECONDS ?= 600

@@ -1,9 +1,12 @@
-//! The benchmark's baselines against the reference.
+//! The benchmark's baselines against the reference, and the text in which it writes sequences.
 
+use crate::benchmark::runs;
 use crate::group::Group;
 use crate::known::Letters;
 use crate::pairs::any_pair;
 use crate::reference::tiling;
+use crate::samples::{call, NO_CALL};
+use crate::tuned;
 use crate::wise;
 
 /// The port of Wise's program lays the tiles of the literal tiling, in the same order, whatever its
@@ -25,5 +28,52 @@ pub fn wise_random(g: &mut Group) {
             tiles,
             tiling(first, second, minimum),
         );
+    }
+}
+
+/// The port of Wise's tuned tiling lays them too.
+pub fn tuned_random(g: &mut Group) {
+    for _ in 0..10_000 {
+        let codes = g.random.pick(&[1, 2, 2, 3, 4, 10]);
+        let longest = g.random.pick(&[8, 20, 60, 60, 150]);
+        let [first, second] = &any_pair(&mut g.random, longest, codes);
+        let minimum = g.random.pick(&[1, 1, 2, 3, 5, 8]);
+        g.equal(
+            format_args!(
+                "{} and {}, minimum {minimum}",
+                Letters(first),
+                Letters(second)
+            ),
+            tuned::tiling(first, second, minimum),
+            tiling(first, second, minimum),
+        );
+    }
+}
+
+/// The text of a sequence has its words, and what is no such text is refused.
+pub fn texts(g: &mut Group) {
+    for _ in 0..2_000 {
+        let codes = g.random.pick(&[1, 2, 3, 10]);
+        let [words, _] = any_pair(&mut g.random, 200, codes);
+        let text = runs::shown(&words);
+        g.equal(format_args!("{text:?}"), runs::parse(&text), Ok(words));
+    }
+    let known = runs::parse("1x3 (2 -)x2");
+    let words = [
+        call(1),
+        call(1),
+        call(1),
+        call(2),
+        NO_CALL,
+        call(2),
+        NO_CALL,
+    ];
+    g.equal(
+        format_args!("the words of a text"),
+        known,
+        Ok(words.to_vec()),
+    );
+    for text in ["(1", "1)", "1x", "a", "65536"] {
+        g.equal(format_args!("{text:?}"), runs::parse(text).is_err(), true);
     }
 }

@@ -24,5 +24,6 @@ pub mod samples;
 pub mod series;
 pub mod stack;
 pub mod tool;
+pub mod tuned;
 pub mod wise;
 pub mod words;

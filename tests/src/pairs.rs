@@ -187,11 +187,11 @@ pub fn any_pair(random: &mut Random, longest: usize, codes: u16) -> Pair {
     }
 }
 
-/// A copy in which 1 word in 20 is replaced and some blocks of up to a sixteenth of the whole are moved.
-pub fn relative(random: &mut Random, words: &[u32], codes: u16) -> Vec<u32> {
+/// A copy in which 1 word in so many is replaced and some blocks of up to a sixteenth of the whole are moved.
+pub fn edited(random: &mut Random, words: &[u32], codes: u16, one_in: usize) -> Vec<u32> {
     let mut copy = words.to_vec();
     for word in &mut copy {
-        if random.one_in(20) {
+        if random.one_in(one_in) {
             *word = letter(random, codes);
         }
     }
@@ -199,6 +199,21 @@ pub fn relative(random: &mut Random, words: &[u32], codes: u16) -> Vec<u32> {
         move_block(random, &mut copy, words.len() / 16);
     }
     copy
+}
+
+/// A copy in which 1 word in 20 is replaced and some blocks are moved.
+pub fn relative(random: &mut Random, words: &[u32], codes: u16) -> Vec<u32> {
+    edited(random, words, codes, 20)
+}
+
+/// The same with 1 word in so many a no-call.
+pub fn with_no_calls(random: &mut Random, mut words: Vec<u32>, one_in: usize) -> Vec<u32> {
+    for word in &mut words {
+        if random.one_in(one_in) {
+            *word = NO_CALL;
+        }
+    }
+    words
 }
 
 /// Two sequences of one length: the second is a relative of the first.

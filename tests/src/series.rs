@@ -144,12 +144,13 @@ fn skewed(random: &mut Random) -> u16 {
     }
 }
 
-/// random.MJW.X and random.StudA.X: X copies of a program's tokens in a random order.
-fn shuffled(copies: usize) -> Pair {
+/// random.MJW.X and random.StudA.X: X copies of a program's tokens in a random order, by a seed. The rows
+/// have the seed X.
+pub fn shuffled(copies: usize, seed: u64) -> Pair {
     // The two programs are the same for every X.
     let random = &mut Random::new(1);
     let programs = [327, 355].map(|length| Vec::from_iter((0..length).map(|_| skewed(random))));
-    let random = &mut Random::new(copies as u64);
+    let random = &mut Random::new(seed);
     programs.map(|program| {
         let mut tokens = program.repeat(copies);
         shuffle(random, &mut tokens);
@@ -205,7 +206,7 @@ pub fn rows() -> Vec<Row> {
     }));
     rows.extend(rows_of(&RANDOM, |_, copies| {
         let name = format!("random.MJW.{copies} random.StudA.{copies}");
-        ("random", name, MINIMUM, shuffled(copies))
+        ("random", name, MINIMUM, shuffled(copies, copies as u64))
     }));
     rows.extend(rows_of(&WC1, |x, longest| {
         ("wc1", format!("wc1.{x} wc2.{x}"), MINIMUM, wc1(longest))

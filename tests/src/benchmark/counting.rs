@@ -3,7 +3,7 @@
 //! `sigxume_counted` and writes a file after each call of it.
 
 use super::{
-    exponent, head, rounded, row, Column, Job, Promises, FAST, LITERAL, PAIR, PLAIN, WISE,
+    exponent, grouped, head, rounded, row, Column, Job, Promises, FAST, LITERAL, PAIR, PLAIN, WISE,
 };
 use crate::series::{self, Row};
 use crate::wise;
@@ -41,7 +41,7 @@ pub fn sigxume_counted(job: &mut Job, column: &Column) -> Compared {
 /// The comparison of a row with one of its first search lengths.
 fn job(row: &Row, start: usize) -> Job {
     let start = row.starts()[start];
-    Job::new(&row.name, row.pair.clone(), row.minimum, start)
+    Job::new(&row.name, vec![row.pair.clone()], row.minimum, start)
 }
 
 /// Whether all columns answer alike on every row, and the port of Wise's program queues as many maximal
@@ -128,19 +128,6 @@ fn count(rows: usize) -> io::Result<Vec<[u64; COUNTED.len()]>> {
         counts.push(row);
     }
     Ok(counts)
-}
-
-/// A number with a comma before each three digits.
-fn grouped(number: u64) -> String {
-    let digits = number.to_string();
-    let mut text = String::new();
-    for (at, digit) in digits.chars().enumerate() {
-        if at > 0 && (digits.len() - at).is_multiple_of(3) {
-            text.push(',');
-        }
-        text.push(digit);
-    }
-    text
 }
 
 /// A row of the paper with what was counted here.

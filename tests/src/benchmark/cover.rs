@@ -1,18 +1,18 @@
 //! The cover at every minimum from one run, beside a comparison at each minimum and beside one at the
 //! least.
 
-use super::table::{Limit, Table};
-use super::{all_agree, timing, Column, Job, Promises, FAST, START};
+use super::table::{About, Everywhere, Limit, Measure, Table, USUAL};
+use super::{all_agree, timing, Column, Heeds, Job, Promises, FAST, START};
 use crate::reference::COVER_WORDS;
 use sigxume::{raw, Settings};
 
-/// The pairs of the first table that are covered.
+/// The pairs of the first tables that are covered.
 const PAIRS: [&str; 5] = [
     "related",
     "unrelated",
     "identical",
     "one code, broken",
-    "short",
+    "short, 32 words",
 ];
 
 /// The minimum of the run that a cover is made from.
@@ -21,11 +21,12 @@ const MINIMUM: u32 = 1;
 static COVER: Column = Column {
     name: "cover",
     run: |job| {
-        let [first, second] = &job.pair;
+        let [first, second] = &job.pairs[job.at];
         let settings = Settings::for_minimum(MINIMUM);
         let (workspace, tiles) = (&mut job.workspace, &mut job.tiles);
         raw::cover_fast(first, second, settings, workspace, tiles, &mut job.cover)
     },
+    heeds: Heeds::All,
 };
 
 /// A comparison at each minimum. That at the least one comes last and is the fast engine's column, whose
@@ -42,37 +43,46 @@ static EACH: Column = Column {
         job.cover[0] = answer.covered;
         answer
     },
+    heeds: Heeds::All,
 };
 
 #[rustfmt::skip]
 static TABLE: Table = Table {
+    name: "cover",
+    about: &[About::Tiles, About::Covered],
     columns: &[&COVER, &EACH, &FAST],
     ratios: &[(&COVER, &FAST), (&EACH, &COVER)],
-    promises: &[("related", &EACH, &COVER, Limit::AtLeast(50.0))],
-    everywhere: (&COVER, &FAST, 1.15),
-    exceptions: &[],
+    promises: &[("related", Measure::Ratio(&EACH, &COVER), Limit::AtLeast(50.0))],
+    everywhere: &[Everywhere {
+        measure: Measure::Ratio(&COVER, &FAST),
+        most: 1.15,
+        own_hash: false,
+        others: &[],
+        exceptions: &[],
+    }],
+    least: USUAL,
 };
 
 /// The pairs that are covered.
-pub fn jobs() -> Vec<Job> {
+fn jobs() -> Vec<Job> {
     let pairs = timing::jobs().into_iter();
     let covered = pairs.filter(|job| PAIRS.contains(&&*job.name));
     covered
-        .map(|job| Job::new(&job.name, job.pair, MINIMUM, START))
+        .map(|job| Job::new(&job.name, job.pairs, MINIMUM, START))
         .collect()
 }
 
 /// Whether the cover is that of the comparisons at each minimum, in its answer, its words and its tiles.
-pub fn agree(jobs: &mut [Job]) -> bool {
-    all_agree(jobs, &[&COVER, &EACH])
+pub fn agree() -> bool {
+    all_agree(&mut jobs(), &[&COVER, &EACH])
 }
 
 /// Prints the time of a cover, of the comparisons at each minimum and of the one at the least.
-pub fn compare_cover(jobs: &mut [Job], promises: &mut Promises) {
+pub fn compare_cover(promises: &mut Promises) {
     println!(
-        "\nCover at every minimum. Median time in ms of one run of it, of a comparison at each minimum \
+        "\nCover at every minimum. Median time in microseconds of one run of it, of a comparison at each minimum \
          from {MINIMUM} to {COVER_WORDS}, and of one at minimum {MINIMUM}, all by the fast engine with the \
-         library's settings; pairs of the first table.\n"
+         library's settings; pairs of the first tables.\n"
     );
-    TABLE.print(jobs, promises);
+    TABLE.print(&mut jobs(), promises);
 }

@@ -1,14 +1,13 @@
 //! The tool's matrix beside the comparisons that it makes: what the files, the threads and the
 //! table cost.
 
-use super::{head, rounded, row, Promises};
+use super::{grouped, head, rounded, row, Promises};
 use crate::pairs::families;
 use crate::program::bytes;
 use crate::random::Random;
 use crate::reference::{record, MAX_WORDS};
 use crate::tool::TOOL;
 use sigxume::Comparer;
-use std::io::Write;
 use std::path::{Path, PathBuf};
 use std::process::{Command, Stdio};
 use std::sync::atomic::{AtomicUsize, Ordering};
@@ -27,6 +26,13 @@ const RUNS: usize = 31;
 /// keep so much of every core busy.
 const MOST_COST: f64 = 1.15;
 const LEAST_CORES: f64 = 0.9;
+
+/// The large matrix, the part of it that is made (each part has as many pairs, give or take one), how often
+/// it is timed, and of how many pairs one is compared again.
+const LARGE_FAMILIES: [usize; 2] = [100, 30];
+const PART: &str = "2/150";
+const LARGE_RUNS: usize = 3;
+const COMPARED: usize = 50;
 
 /// A time on the clock and on the processors, in seconds.
 #[derive(Clone, Copy)]
@@ -68,17 +74,13 @@ fn compare_all(sequences: &[Vec<u32>], threads: usize) -> (Cells, f64) {
     (cells, time)
 }
 
-/// The table that the tool writes, and its times as the shell measures them.
-fn run_tool(file: &Path, threads: usize) -> io::Result<(String, Times)> {
-    let script = "TIMEFORMAT='%R %U %S'; time \"$0\" matrix -m \"$1\" --threads \"$2\" \"$3\"";
+/// What the tool writes with some options, and its times as the shell measures them.
+fn run_tool(file: &Path, threads: usize, options: &[&str]) -> io::Result<(String, Times)> {
+    let script = "TIMEFORMAT='%R %U %S'; time \"$0\" matrix \"$@\"";
+    let (minimum, threads) = (MINIMUM.to_string(), threads.to_string());
     let output = Command::new("bash")
-        .args([
-            "-c",
-            script,
-            TOOL,
-            &MINIMUM.to_string(),
-            &threads.to_string(),
-        ])
+        .args(["-c", script, TOOL, "-m", &minimum, "--threads", &threads])
+        .args(options)
         .arg(file)
         .stdin(Stdio::null())
         .output()?;
@@ -107,13 +109,14 @@ fn median(mut times: Vec<f64>) -> f64 {
     times[times.len() / 2]
 }
 
-/// A file of records that is removed in the end.
-struct Scratch(PathBuf);
+/// A file that is removed in the end.
+pub struct Scratch(pub PathBuf);
 
 impl Scratch {
-    fn new(records: &[u8]) -> io::Result<Self> {
-        let path = env::temp_dir().join(format!("sigxume-matrix-{}", process::id()));
-        fs::File::create_new(&path)?.write_all(records)?;
+    /// A new empty file with a name in the system's folder for such files.
+    pub fn new(name: &str) -> io::Result<Self> {
+        let path = env::temp_dir().join(format!("sigxume-{name}-{}", process::id()));
+        fs::File::create_new(&path)?;
         Ok(Self(path))
     }
 }
@@ -125,13 +128,84 @@ impl Drop for Scratch {
     }
 }
 
+/// Sequences in families, and a file with their records.
+fn collection(sizes: [usize; 2]) -> io::Result<(Vec<Vec<u32>>, Scratch)> {
+    let sequences = families(&mut Random::new(SEED), sizes, MAX_WORDS, CODES);
+    let records = sequences.iter().zip(0..);
+    let records = Vec::from_iter(records.flat_map(|(words, id)| bytes(&record(id, words))));
+    let file = Scratch::new("matrix")?;
+    fs::write(&file.0, records)?;
+    Ok((sequences, file))
+}
+
+/// How many pairs a list has; an error where one of those that are compared again has another score.
+fn check_list(sequences: &[Vec<u32>], list: &str) -> io::Result<usize> {
+    let mut comparer = Comparer::new();
+    for line in list.lines().step_by(COMPARED) {
+        let numbers = line.split(',').map(|number| number.parse().ok());
+        let score = match Vec::from_iter(numbers)[..] {
+            [Some(i), Some(j), _, _, _, _, Some(score)] => {
+                let [first, second]: [&[u32]; 2] = [i, j].map(|at: usize| &sequences[at - 1][..]);
+                let tiling = comparer.compare(first, second, MINIMUM);
+                tiling.expect("an accepted pair").score() as usize == score
+            }
+            _ => false,
+        };
+        if !score {
+            return Err(io::Error::other(format!(
+                "the list has another score: {line}"
+            )));
+        }
+    }
+    Ok(list.lines().count())
+}
+
+/// Times the tool on a part of a large matrix, on one thread and on all.
+pub fn compare_large() -> io::Result<()> {
+    let (sequences, file) = collection(LARGE_FAMILIES)?;
+    let cores = thread::available_parallelism()?.get();
+    println!(
+        "\nPart {PART} of a matrix over {} records of {MAX_WORDS} words in {} families of {}, {CODES} codes \
+         (seed {SEED}), minimum {MINIMUM}, with reading the file and starting the threads. Median of \
+         {LARGE_RUNS} runs; {cores} cores.\n",
+        sequences.len(),
+        LARGE_FAMILIES[0],
+        LARGE_FAMILIES[1]
+    );
+    let titles = [
+        "Threads",
+        "pairs",
+        "seconds",
+        "processor time",
+        "pairs per second and core",
+    ];
+    head(&titles.map(String::from));
+    for threads in [1, cores] {
+        let mut times = Vec::new();
+        let mut pairs = 0;
+        for _ in 0..LARGE_RUNS {
+            let (list, time) = run_tool(&file.0, threads, &["--pairs", "--part", PART])?;
+            pairs = check_list(&sequences, &list)?;
+            times.push(time);
+        }
+        let clock = median(times.iter().map(|it| it.clock).collect());
+        let processors = median(times.iter().map(|it| it.processors).collect());
+        let rate = pairs as f64 / clock / threads as f64;
+        row(&[
+            threads.to_string(),
+            grouped(pairs as u64),
+            format!("{clock:.3}"),
+            format!("{processors:.3}"),
+            grouped(rate.round() as u64),
+        ]);
+    }
+    Ok(())
+}
+
 /// Times the comparisons and the tool on one thread and on all, prints the table and notes what was
 /// promised.
 pub fn compare_matrix(promises: &mut Promises) -> io::Result<()> {
-    let sequences = families(&mut Random::new(SEED), FAMILIES, MAX_WORDS, CODES);
-    let records = sequences.iter().zip(0..);
-    let records = Vec::from_iter(records.flat_map(|(words, id)| bytes(&record(id, words))));
-    let file = Scratch::new(&records)?;
+    let (sequences, file) = collection(FAMILIES)?;
     let cores = thread::available_parallelism()?.get();
     let counts = [1, cores];
     let mut alone = counts.map(|_| Vec::new());
@@ -140,7 +214,7 @@ pub fn compare_matrix(promises: &mut Promises) -> io::Result<()> {
         for (at, &threads) in counts.iter().enumerate() {
             let (cells, time) = compare_all(&sequences, threads);
             alone[at].push(time);
-            let (table, times) = run_tool(&file.0, threads)?;
+            let (table, times) = run_tool(&file.0, threads, &[])?;
             if cells != cells_of(&table) {
                 return Err(io::Error::other("the matrix has other scores"));
             }

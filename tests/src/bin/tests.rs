@@ -28,6 +28,8 @@ const GROUPS: &[Row] = &[
     ("reference: known windows", 2, known::windows),
     ("reference: worked example", 3, known::example),
     ("reference: port of Wise's program", 60, baselines::wise_random),
+    ("reference: Wise's tuned tiling", 138, baselines::tuned_random),
+    ("reference: sequences as text", 139, baselines::texts),
     ("match: boundary words", 4, words::match_boundaries),
     ("match: every code", 5, words::match_codes),
     ("match: random pairs", 6, words::match_random),

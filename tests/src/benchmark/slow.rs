@@ -1,0 +1,328 @@
+//! Inputs that were found or made to be slow, at settings that make them so: what the engines take at the
+//! worst.
+
+use super::runs::parse;
+use super::table::{About, Everywhere, Least, Measure, Table};
+use super::{all_agree, Job, Promises, FAST, PLAIN, START, WISE};
+use crate::pairs::{broken, calls, periodic, shuffled, unrelated, Pair};
+use crate::random::Random;
+use crate::reference::MAX_WORDS;
+use crate::samples::{call, NO_CALL};
+use sigxume::Settings;
+use std::time::Duration;
+
+const SEED: u64 = 1;
+
+/// The multipliers: the pair program's; that of which only the last word counts; that of which the sum
+/// of the words counts; that of which the last word and the lowest bit of the one before count.
+pub const MULTIPLIERS: [u32; 4] = [257, 0, 1, 1 << 31];
+
+#[rustfmt::skip]
+static TABLE: Table = Table {
+    name: "slow inputs",
+    about: &[About::Minimum, About::Start, About::Multiplier, About::Buckets],
+    columns: &[&PLAIN, &FAST, &WISE],
+    ratios: &[(&FAST, &WISE)],
+    promises: &[],
+    everywhere: &[
+        Everywhere {
+            measure: Measure::Ratio(&FAST, &WISE),
+            most: 2.0,
+            own_hash: true,
+            others: &[],
+            exceptions: &[],
+        },
+        Everywhere {
+            measure: Measure::Milliseconds(&FAST),
+            most: 100.0,
+            own_hash: false,
+            others: &[],
+            exceptions: &[],
+        },
+        Everywhere {
+            measure: Measure::Milliseconds(&PLAIN),
+            most: 90.0,
+            own_hash: false,
+            others: &[],
+            exceptions: &[],
+        },
+    ],
+    least: Least { runs: 1, time: Duration::from_millis(100) },
+};
+
+/// Slow pairs of one kind.
+pub struct Family {
+    pub name: &'static str,
+    pub pair: Pair,
+    /// The minimums, each with its first search lengths.
+    pub lengths: &'static [(u32, &'static [u32])],
+    /// The bucket counts, each with its multipliers.
+    pub hashes: &'static [(u32, &'static [u32])],
+}
+
+/// The library's own bucket count, which is the same at every minimum.
+const OWN: u32 = Settings::for_minimum(1).buckets;
+
+/// Every multiplier with the library's buckets, and with one.
+const EVERY_HASH: &[(u32, &[u32])] = &[(OWN, &MULTIPLIERS), (1, &MULTIPLIERS)];
+
+/// Every multiplier with the library's buckets, and the pair program's with one.
+const SOME_HASHES: &[(u32, &[u32])] = &[(OWN, &MULTIPLIERS), (1, &[257])];
+
+impl Family {
+    /// A family that is compared with some hashes.
+    fn new(name: &'static str, pair: Pair, lengths: &'static [(u32, &'static [u32])]) -> Self {
+        let hashes = SOME_HASHES;
+        Self {
+            name,
+            pair,
+            lengths,
+            hashes,
+        }
+    }
+
+    fn jobs(self) -> Vec<Job> {
+        let mut jobs = Vec::new();
+        for &(minimum, starts) in self.lengths {
+            for &start in starts {
+                for &(buckets, multipliers) in self.hashes {
+                    for &multiplier in multipliers {
+                        let settings = Settings {
+                            multiplier,
+                            buckets,
+                            start,
+                        };
+                        let pairs = vec![self.pair.clone()];
+                        jobs.push(Job::with(self.name, pairs, minimum, settings));
+                    }
+                }
+            }
+        }
+        jobs
+    }
+}
+
+/// Stretches of so many calls of one code, one more, two more, .. with a call of another after each.
+fn stretches(from: usize) -> Vec<u32> {
+    let stretch = |length| [vec![call(1); length], vec![call(2)]].concat();
+    (from..).flat_map(stretch).take(MAX_WORDS).collect()
+}
+
+/// The same stretches in another order.
+fn stretches_in_disorder(random: &mut Random) -> Vec<u32> {
+    let words = stretches(40);
+    let parts = Vec::from_iter(words.split_inclusive(|&word| word == call(2)));
+    let order = shuffled(random, parts.len());
+    Vec::from_iter(order.into_iter().map(|at| parts[at])).concat()
+}
+
+/// A copy with a word in place of every `step`-th.
+fn broken_at(words: &[u32], step: usize, word: u32) -> Vec<u32> {
+    let mut copy = words.to_vec();
+    let places = copy.iter_mut().skip(step - 1).step_by(step);
+    places.for_each(|place| *place = word);
+    copy
+}
+
+/// A copy with a call of another code in place of 1 word in so many.
+fn broken_at_random(random: &mut Random, mut words: Vec<u32>, one_in: usize) -> Vec<u32> {
+    for word in &mut words {
+        if random.one_in(one_in) {
+            *word = call(99);
+        }
+    }
+    words
+}
+
+/// The Fibonacci word: 1 becomes 1 2 and 2 becomes 1, over and over.
+fn fibonacci() -> Vec<u32> {
+    let (mut word, mut next) = (vec![call(1)], vec![call(1), call(2)]);
+    while word.len() < MAX_WORDS {
+        let longer = [&next[..], &word].concat();
+        (word, next) = (next, longer);
+    }
+    word.truncate(MAX_WORDS);
+    word
+}
+
+/// The Thue-Morse word: whether the number of ones in the position's bits is odd.
+fn thue_morse() -> Vec<u32> {
+    let code = |at: usize| 1 + (at.count_ones() % 2) as u16;
+    (0..MAX_WORDS).map(|at| call(code(at))).collect()
+}
+
+/// A de Bruijn word: two codes, of which every 11 in a row occur once, taking the greater code or the
+/// smaller one wherever that is still possible.
+fn de_bruijn(greater: bool) -> Vec<u32> {
+    let mut seen = [false; MAX_WORDS];
+    let (mut last, mut words) = (0, Vec::new());
+    while words.len() < MAX_WORDS {
+        let next = |bit: usize| (last * 2 + bit) % MAX_WORDS;
+        let first = usize::from(greater);
+        let bit = if seen[next(first)] { 1 - first } else { first };
+        last = next(bit);
+        seen[last] = true;
+        words.push(call(1 + bit as u16));
+    }
+    words
+}
+
+/// One code at every second position, and any even code between: windows that end in the one code have
+/// the same last word and a word before it with the same lowest bit.
+fn alternating(random: &mut Random) -> Vec<u32> {
+    let words = (0..MAX_WORDS).map(|at| match at % 2 {
+        0 => call(1),
+        _ => call(2 + 2 * random.below(500) as u16),
+    });
+    words.collect()
+}
+
+/// Pairs of codes with the same sum: so have all windows of even length that begin with a pair.
+fn equal_sums(random: &mut Random) -> Vec<u32> {
+    let pairs = (0..MAX_WORDS / 2).flat_map(|_| {
+        let code = random.below(500) as u16;
+        [call(code), call(1_000 - code)]
+    });
+    pairs.collect()
+}
+
+/// The same 16 codes in ever another order.
+fn permutations(random: &mut Random) -> Vec<u32> {
+    let blocks = (0..MAX_WORDS / 16).flat_map(|_| shuffled(random, 16));
+    blocks.map(|code| call(code as u16)).collect()
+}
+
+/// Forty codes, one of which has half of all words.
+fn half_one_code(random: &mut Random) -> Pair {
+    [(); 2].map(|()| {
+        let mut words = calls(random, MAX_WORDS, 40);
+        for word in &mut words {
+            if random.one_in(2) {
+                *word = call(1);
+            }
+        }
+        words
+    })
+}
+
+/// The families.
+pub fn families() -> Vec<Family> {
+    const USUAL: &[(u32, &[u32])] = &[(8, &[START])];
+    let random = &mut Random::new(SEED);
+    let one_code = vec![call(1); MAX_WORDS];
+    let (fibonacci, thue_morse) = (fibonacci(), thue_morse());
+    let mut periods = [0, 3].map(|phase| periodic(MAX_WORDS, 7, phase));
+    periods = periods.map(|words| broken_at_random(random, words, 40));
+    vec![
+        Family {
+            name: "stretches against one code",
+            pair: [one_code.clone(), stretches(40)],
+            lengths: &[(38, &[38, 1_768, 1_829, 2_048]), (8, &[START, 2_048])],
+            hashes: EVERY_HASH,
+        },
+        Family::new(
+            "stretches from 20 on",
+            [one_code.clone(), stretches(20)],
+            &[(38, &[600]), (1, &[START])],
+        ),
+        Family::new(
+            "stretches from 60 on",
+            [one_code.clone(), stretches(60)],
+            &[(38, &[1_768])],
+        ),
+        Family {
+            name: "one code, broken",
+            pair: [one_code, broken(1, MAX_WORDS)],
+            lengths: &[(8, &[START, 2_048])],
+            hashes: EVERY_HASH,
+        },
+        Family::new(
+            "stretches in two orders",
+            [stretches(40), stretches_in_disorder(random)],
+            &[(8, &[START, 2_048])],
+        ),
+        Family::new(
+            "two codes, unrelated",
+            unrelated(random, MAX_WORDS, 2),
+            &[(12, &[START]), (1, &[START])],
+        ),
+        Family::new("periods, broken", periods, USUAL),
+        Family::new(
+            "Fibonacci word, broken",
+            [broken_at(&fibonacci, 89, NO_CALL), fibonacci],
+            USUAL,
+        ),
+        Family::new(
+            "Thue-Morse word, broken",
+            [broken_at(&thue_morse, 64, NO_CALL), thue_morse],
+            USUAL,
+        ),
+        Family::new("de Bruijn words", [false, true].map(de_bruijn), USUAL),
+        Family::new(
+            "last words alike",
+            [(); 2].map(|()| alternating(random)),
+            USUAL,
+        ),
+        Family::new("sums alike", [(); 2].map(|()| equal_sums(random)), USUAL),
+        Family::new(
+            "permutations",
+            [(); 2].map(|()| permutations(random)),
+            &[(16, &[START])],
+        ),
+        Family::new("one code of 40 in two", half_one_code(random), USUAL),
+    ]
+}
+
+/// A pair that a search has found: its name, the minimum, multiplier, buckets and first search length, and
+/// its sequences.
+type Found = (&'static str, u32, [u32; 3], [&'static str; 2]);
+
+#[rustfmt::skip]
+const FOUND: [Found; 2] = [
+    ("found by search, 1", 70, [1 << 31, 1_021, 70], [
+        "2x3 4x38 1x8 4x163 2 4x1835",
+        "4x47 5 4x520 1 4x288 1 4x288 1 4x288 1 4x288 1 4x323",
+    ]),
+    ("found by search, 2", 110, [257, 1_024, 110], [
+        "1x2048",
+        "1x279 - 1x110 2x2 1x10 - 1x215 - 1x128 - 1x128 - 1x161 - 1x11 5 1x143 - 1x127 - 1x127 - 1x127 - 1x205 - 1x202 - 1x60",
+    ]),
+];
+
+/// The rows of the table.
+pub fn jobs() -> Vec<Job> {
+    let mut jobs = Vec::from_iter(families().into_iter().flat_map(Family::jobs));
+    for (name, minimum, [multiplier, buckets, start], texts) in FOUND {
+        let pair = texts.map(|text| parse(text).expect("the text of a sequence"));
+        let settings = Settings {
+            multiplier,
+            buckets,
+            start,
+        };
+        jobs.push(Job::with(name, vec![pair], minimum, settings));
+    }
+    jobs
+}
+
+/// Whether all columns answer alike. The plain engine has no settings and is asked once.
+pub fn agree() -> bool {
+    let mut jobs = jobs();
+    let mut good = all_agree(&mut jobs, &[&FAST, &WISE]);
+    for at in 0..jobs.len() {
+        let (before, rest) = jobs.split_at_mut(at);
+        let is_same = |other: &Job| rest[0].is_same(other, &PLAIN);
+        if !before.last().is_some_and(is_same) {
+            good &= rest[0].agree(&[&PLAIN, &WISE]);
+        }
+    }
+    good
+}
+
+/// Prints every engine's time on slow inputs.
+pub fn compare_slow(promises: &mut Promises) {
+    println!(
+        "\nSlow inputs. Median time in microseconds; {MAX_WORDS} words a side. A time that does not \
+         depend on a setting is measured once for all rows that differ in it alone.\n"
+    );
+    TABLE.print(&mut jobs(), promises);
+}
