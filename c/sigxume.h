@@ -82,7 +82,7 @@ extern "C" {
 
 /* Settings of the fast engine that serve well, with sigxume_start below. The answer does not depend on them, only the time. */
 #define SIGXUME_MULTIPLIER 257
-#define SIGXUME_BUCKETS 1024
+#define SIGXUME_BUCKETS 1021
 
 /* The call of a code from 0 to 65,535, which is its low 16 bits, and the no-call; a constant code gives a constant. A greater code,
  * below 2^30, gives a word that is refused. */

@@ -14,12 +14,12 @@ pub struct Settings {
 }
 
 impl Settings {
-    /// The settings that serve well at a minimum: multiplier 257, 1,024 buckets, and first search
+    /// The settings that serve well at a minimum: multiplier 257, 1,021 buckets, and first search
     /// length 20, or the minimum if larger.
     pub const fn for_minimum(minimum: u32) -> Self {
         Self {
             multiplier: 257,
-            buckets: 1_024,
+            buckets: 1_021,
             start: if minimum > 20 { minimum } else { 20 },
         }
     }
