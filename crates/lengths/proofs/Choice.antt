@@ -1,104 +1,145 @@
--- Which length is taken: by how many different windows of the minimum length so few kinds of words make, and by what is left after a pass.
+-- Which length is taken: by how many of some windows differ, and by what is left after a pass.
 -- Assumes nothing.
 use Prim.Native.Nat.{ℕ, zero, suc, _+_, _-_, _*_, _/_, _^_, _≤_, _<_, min, max}
-use native.Mathlib.Nat.{mul-le-mul, mul-one, pow-zero, pow-suc}
+use native.Mathlib.Nat.{pow-zero, pow-suc}
 use native.Mathlib.Numerals.{add-one}
 use native.Mathlib.Decide.{decLt}
 use native.Mathlib.Omega.{arith}
 use mathlib.Core.Path.{_≡_, refl, sym, _∙_, ap}
 use mathlib.Core.Bool.{Bool, true, false}
 use mathlib.Core.List.{List}
-use borrow.Author.Tests.{lt-ltb, le-ltb, le-leb, lt-leb}
+use borrow.Author.Tests.{lt-ltb, le-ltb, le-leb, lt-leb, leb-true}
 use lib.Dec.{ltb, leb}
 use lib.ListN.{length, take, drop}
-use lib.Pow.{pow-add}
 use Rattle.sweep.specs.Workspace.{Space, state}
 use Rattle.sweep.specs.declared.Job.{Job}
 use Rattle.sweep.proofs.Workspace.{pattern-length}
-use Rattle.lengths.specs.Lengths.{kinds, firstLength, longest, left}
-use Rattle.lengths.proofs.Rests.{kinds-most}
+use Rattle.lengths.specs.Lengths.{different, climbed, firstLength, longest, left, partOf}
+use Rattle.lengths.proofs.Samples.{different-fits}
 
--- A length within two others, and a smaller one that is at least the minimum.
-pub record Between (minimum given s : ℕ) : Type 0 where
+-- A length that a pass may have, and a smaller one that is at least the minimum.
+pub record Between (minimum s : ℕ) : Type 0 where
   pub least : minimum ≤ s
-  pub most : s ≤ given
+  pub most : s ≤ 2048
 
 pub record Next (minimum s r : ℕ) : Type 0 where
   pub least : minimum ≤ r
   pub less : r < s
 
--- ---- how many windows
-pub record Powers (k minimum n i w : ℕ) : Type 0 where
-  pub within : i ≤ minimum
-  pub power : w ≡ k ^ i
-  pub small : w ≤ 131072
-
-pub powers-none : (k minimum n : ℕ) → Powers k minimum n 0 1
-powers-none k minimum n = record { within = omega arith; power = sym (pow-zero k); small = omega arith }
-
--- A power is at least 1.
-power-some : (k i : ℕ) → 1 ≤ k → 1 ≤ k ^ i
-power-some k zero h = omega (arith, pow-zero k)
-power-some k (suc i) h = let m : 1 * 1 ≤ k ^ i * k = mul-le-mul (power-some k i h) h in omega (arith, pow-suc k i, m)
-
-module _ (k minimum n i w : ℕ) (p : Powers k minimum n i w) where
-  powers-fits : 16 * w < n → n ≤ 2048 → k ≤ 1024 → w * k ≤ 131072
-  powers-fits h a b = let c : w ≤ 128 = omega arith in omega (arith, mul-le-mul c b)
-
-  pub powers-room : 16 * w < n → n ≤ 2048 → k ≤ 1024 → w * k < 2 ^ 64
-  powers-room h a b = omega (arith, powers-fits h a b)
-
-  pub powers-more : i < minimum → 16 * w < n → n ≤ 2048 → k ≤ 1024 → (r : ℕ) → r ≡ w * k → Powers k minimum n (i + 1) r
-  powers-more l h a b r e = record { within = omega arith; power = e ∙ rw (add-one i, pow-suc k i, p .power) refl; small = omega (arith, powers-fits h a b, e) }
-
-  pub powers-all : minimum ≤ i → ltb (16 * w) n ≡ ltb (16 * k ^ minimum) n
-  powers-all h = let e : i ≡ minimum = omega (arith, p .within) in rw (p .power, e) refl
-
-  -- Already too many, and more words make no fewer.
-  pub powers-over : 1 ≤ k → n ≤ 16 * w → false ≡ ltb (16 * k ^ minimum) n
-  powers-over some h =
-      let e : minimum ≡ i + (minimum - i) = omega (arith, p .within) in
-      let more : k ^ minimum ≡ k ^ i * k ^ (minimum - i) = ap (λ z. k ^ z) e ∙ pow-add k i (minimum - i) in
-      let least : k ^ i * 1 ≤ k ^ i * k ^ (minimum - i) = mul-le-mul (le-self (k ^ i)) (power-some k (minimum - i) some) in
-      sym (le-ltb (16 * k ^ minimum) n (omega (arith, more, least, mul-one (k ^ i), p .power)))
-    where
-      le-self : (z : ℕ) → z ≤ z
-      le-self z = omega arith
-
-pub kinds-some : (m c : ℕ) → c ≡ max 1 m → 1 ≤ c
-kinds-some m c e = omega (arith, e)
-
-pub kinds-few : (words : List ℕ) (m c : ℕ) → m ≡ kinds words → c ≡ max 1 m → c ≤ 1024
-kinds-few words m c e k = omega (arith, k, e, kinds-most words)
-
 -- ---- the first length
-module _ (j : Job) (ws : List ℕ) (given m c : ℕ) (s : Space j ws) (em : m ≡ kinds (take (j .n - 0) (drop 0 ws))) (ec : c ≡ max 1 m) where
+-- One try.
+module _ (ws : List ℕ) (b minimum s few n : ℕ) where
+  try-found : leb 44 (different ws b s) ≡ true → climbed ws b minimum s few (suc n) ≡ s
+  unfolding climbed
+  try-found k = rw (climbed, k) refl
+
+  try-over : leb 44 (different ws b s) ≡ false → leb (different ws b s) few ≡ true → climbed ws b minimum s few (suc n) ≡ minimum
+  unfolding climbed
+  try-over k l = rw (climbed, k, l) refl
+
+  try-more : leb 44 (different ws b s) ≡ false → leb (different ws b s) few ≡ false → climbed ws b minimum s few (suc n) ≡ climbed ws b minimum (s * 2) (different ws b s) n
+  unfolding climbed
+  try-more k l = rw (climbed, k, l) refl
+
+-- What is tried from s on, with so many tries left, is what was to be tried from the start.
+pub record Climbing (ws : List ℕ) (b minimum given few i s before : ℕ) : Type 0 where
+  pub within : i ≤ 3
+  pub short : length ws ≤ 2048
+  pub some : 1 ≤ s
+  pub small : s ≤ 2048 * 2 ^ i
+  pub same : climbed ws b minimum s before (3 - i) ≡ climbed ws b minimum given few 3
+
+pub climbing-none : (ws : List ℕ) (b minimum given few : ℕ) → length ws ≤ 2048 → 1 ≤ given → given ≤ 2048 → Climbing ws b minimum given few 0 given few
+climbing-none ws b minimum given few h o l = record { within = omega arith; short = h; some = o; small = omega arith; same = refl }
+
+module _ (ws : List ℕ) (b minimum given few i s before : ℕ) (c : Climbing ws b minimum given few i s before) where
+  pub climbing-done : 3 ≤ i → minimum ≡ climbed ws b minimum given few 3
+  unfolding climbed
+  climbing-done h = let e : 3 - i ≡ 0 = omega arith in rw e at (c .same)
+
+  module _ (more : i < 3) (d : ℕ) (ed : d ≡ different ws b s) where
+    tries : 3 - i ≡ suc (3 - (i + 1))
+    tries = omega arith
+
+    opened : climbed ws b minimum s before (suc (3 - (i + 1))) ≡ climbed ws b minimum given few 3
+    opened = rw tries at (c .same)
+
+    pub climbing-found : 44 ≤ d → s ≡ climbed ws b minimum given few 3
+    climbing-found h = let k : leb 44 (different ws b s) ≡ true = rw (← ed) (le-leb 44 d h) in sym (try-found ws b minimum s before (3 - (i + 1)) k) ∙ opened
+
+    module _ (low : d < 44) where
+      not-many : leb 44 (different ws b s) ≡ false
+      not-many = rw (← ed) (lt-leb 44 d low)
+
+      pub climbing-over : d ≤ before → minimum ≡ climbed ws b minimum given few 3
+      climbing-over h = let k : leb (different ws b s) before ≡ true = rw (← ed) (le-leb d before h) in sym (try-over ws b minimum s before (3 - (i + 1)) not-many k) ∙ opened
+
+      pub climbing-more : before < d → Climbing ws b minimum given few (i + 1) (s * 2) d
+      climbing-more h =
+          let k : leb (different ws b s) before ≡ false = rw (← ed) (lt-leb d before h) in
+          record { within = omega arith; short = c .short; some = omega (arith, c .some); small = omega (arith, c .small, doubled i); same = ap (λ z. climbed ws b minimum (s * 2) z (3 - (i + 1))) ed ∙ (sym (try-more ws b minimum s before (3 - (i + 1)) not-many k) ∙ opened) }
+        where
+          doubled : (n : ℕ) → 2 ^ (n + 1) ≡ 2 ^ n * 2
+          doubled n = rw (add-one n) (pow-suc 2 n)
+
+  pub climbing-room : s * 2 < 2 ^ 64
+  climbing-room = omega (arith, c .small, powers i (c .within))
+    where
+      powers : (n : ℕ) → n ≤ 3 → 2 ^ n ≤ 8
+      powers zero h = omega (arith, pow-zero 2)
+      powers (suc zero) h = omega arith
+      powers (suc (suc zero)) h = omega arith
+      powers (suc (suc (suc zero))) h = omega arith
+      powers (suc (suc (suc (suc n)))) h = absurd (omega arith)
+
+module _ (j : Job) (ws : List ℕ) (b given : ℕ) (s : Space j ws) where
   words : take (j .n - 0) (drop 0 ws) ≡ state j ws .pattern
   words = let e : j .n - 0 ≡ j .n = omega arith in rw e refl
 
-  counted : c ≡ max 1 (kinds (state j ws .pattern))
-  counted = ec ∙ ap (max 1) (em ∙ ap kinds words)
+  pub first-short : j .n ≤ 256 → j .minimum ≡ firstLength (state j ws .pattern) b (j .minimum) given
+  unfolding firstLength
+  first-short h = rw (firstLength, pattern-length j ws s, le-leb (j .n) 256 h) refl
 
-  module _ (b : Bool) (e : b ≡ ltb (16 * c ^ j .minimum) (j .n)) where
-    tested : b ≡ ltb (16 * max 1 (kinds (state j ws .pattern)) ^ j .minimum) (length (state j ws .pattern))
-    tested = e ∙ rw (counted, pattern-length j ws s) refl
+  module _ (long : 256 < j .n) (few : ℕ) (e : few ≡ different (take (j .n - 0) (drop 0 ws)) b (j .minimum)) where
+    counted : few ≡ different (state j ws .pattern) b (j .minimum)
+    counted = e ∙ rw words refl
 
-    pub first-given : b ≡ true → given ≡ firstLength (state j ws .pattern) (j .minimum) given
+    pub first-many : 44 ≤ few → j .minimum ≡ firstLength (state j ws .pattern) b (j .minimum) given
     unfolding firstLength
-    first-given z = rw (firstLength, ← tested, z) refl
+    first-many h =
+        let k : leb 44 (different (state j ws .pattern) b (j .minimum)) ≡ true = rw (← counted) (le-leb 44 few h) in
+        rw (firstLength, pattern-length j ws s, lt-leb (j .n) 256 long, k) refl
 
-    pub first-least : b ≡ false → j .minimum ≡ firstLength (state j ws .pattern) (j .minimum) given
+    pub first-climbed : few < 44 → (r : ℕ) → r ≡ climbed (take (j .n - 0) (drop 0 ws)) b (j .minimum) given few 3 → r ≡ firstLength (state j ws .pattern) b (j .minimum) given
     unfolding firstLength
-    first-least z = rw (firstLength, ← tested, z) refl
+    first-climbed h r w =
+        let k : leb 44 (different (state j ws .pattern) b (j .minimum)) ≡ false = rw (← counted) (lt-leb 44 few h) in
+        w ∙ rw (firstLength, pattern-length j ws s, lt-leb (j .n) 256 long, k, words, ← counted) refl
 
--- It is the minimum or the one given.
-pub first-between : (pattern : List ℕ) (minimum given s : ℕ) → minimum ≤ given → s ≡ firstLength pattern minimum given → Between minimum given s
-unfolding firstLength
-first-between pattern minimum given s h e = rw e (go (ltb (16 * max 1 (kinds pattern) ^ minimum) (length pattern)))
+-- It is at least the minimum, and no longer than a sequence may be.
+between-least : (minimum : ℕ) → minimum ≤ 2048 → Between minimum minimum
+between-least minimum h = record { least = omega arith; most = h }
+
+climbed-between : (ws : List ℕ) (b minimum : ℕ) → length ws ≤ 2048 → minimum ≤ 2048 → (n s few : ℕ) → minimum ≤ s → Between minimum (climbed ws b minimum s few n)
+unfolding climbed
+climbed-between ws b minimum l h zero s few g = between-least minimum h
+climbed-between ws b minimum l h (suc n) s few g =
+    go (leb 44 (different ws b s)) refl (leb (different ws b s) few) (climbed-between ws b minimum l h n (s * 2) (different ws b s) (omega arith))
   where
-    go : (b : Bool) → Between minimum given (elim b [ true ↦ given | false ↦ minimum ])
-    go true = record { least = h; most = omega arith }
-    go false = record { least = omega arith; most = h }
+    go : (c : Bool) → leb 44 (different ws b s) ≡ c → (d : Bool) → Between minimum (climbed ws b minimum (s * 2) (different ws b s) n) → Between minimum (elim c [ true ↦ s | false ↦ elim d [ true ↦ minimum | false ↦ climbed ws b minimum (s * 2) (different ws b s) n ] ])
+    go true e d later = record { least = g; most = omega (arith, different-fits ws b s (omega (arith, leb-true 44 (different ws b s) e))) }
+    go false e true later = between-least minimum h
+    go false e false later = later
+
+pub first-between : (pattern : List ℕ) (b minimum given s : ℕ) → length pattern ≤ 2048 → minimum ≤ given → given ≤ 2048 → s ≡ firstLength pattern b minimum given → Between minimum s
+unfolding firstLength
+first-between pattern b minimum given s l h m e =
+    rw e (go (leb (length pattern) 256) (leb 44 (different pattern b minimum)))
+  where
+    go : (c d : Bool) → Between minimum (elim c [ true ↦ minimum | false ↦ elim d [ true ↦ minimum | false ↦ climbed pattern b minimum given (different pattern b minimum) 3 ] ])
+    go true d = between-least minimum (omega arith)
+    go false true = between-least minimum (omega arith)
+    go false false = climbed-between pattern b minimum l (omega arith) 3 given (different pattern b minimum) h
 
 -- ---- what is left
 pub left-none : (pattern : List ℕ) (minimum s : ℕ) → s ≤ minimum → 0 ≡ left pattern minimum s
@@ -123,5 +164,21 @@ unfolding left
 left-all pattern minimum s r e h = e ∙ rw (left, lt-leb s minimum h) refl
 
 -- ---- the next length
-pub next-between : (minimum s stretch r : ℕ) → r ≡ max minimum (min (s / 2) stretch) → minimum < s → Next minimum s r
-next-between minimum s stretch r e h = record { least = omega (arith, e); less = omega (arith, e) }
+pub part-quarter : (s covered n : ℕ) → n < 2 * covered → s / 4 ≡ partOf s covered n
+unfolding partOf
+part-quarter s covered n h = rw (partOf, lt-ltb n (2 * covered) h) refl
+
+pub part-half : (s covered n : ℕ) → 2 * covered ≤ n → s / 2 ≡ partOf s covered n
+unfolding partOf
+part-half s covered n h = rw (partOf, le-ltb n (2 * covered) h) refl
+
+part-less : (s covered n : ℕ) → 1 ≤ s → partOf s covered n < s
+unfolding partOf
+part-less s covered n h = go (ltb n (2 * covered))
+  where
+    go : (c : Bool) → elim c [ true ↦ s / 4 | false ↦ s / 2 ] < s
+    go true = omega arith
+    go false = omega arith
+
+pub next-between : (minimum s covered n stretch r : ℕ) → r ≡ max minimum (min (partOf s covered n) stretch) → minimum < s → Next minimum s r
+next-between minimum s covered n stretch r e h = record { least = omega (arith, e); less = omega (arith, e, part-less s covered n (omega arith)) }

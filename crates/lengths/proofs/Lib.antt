@@ -1,3 +1,3 @@
-pub mod Rests
+pub mod Samples
 pub mod Stretches
 pub mod Choice

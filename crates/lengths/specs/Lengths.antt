@@ -1,39 +1,57 @@
 -- Which search lengths the passes have. No reader of the engines' contracts needs these: any lengths would do.
-use Prim.Native.Nat.{ℕ, zero, suc, _+_, _*_, _%_, _^_, _<_, max}
+use Prim.Native.Nat.{ℕ, zero, suc, _+_, _-_, _*_, _/_, _%_, _^_, _<_, max}
 use mathlib.Core.Path.{_≡_}
 use mathlib.Core.Bool.{Bool, true, false, not}
 use mathlib.Core.List.{List, [], _∷_}
 use lib.Dec.{leb, ltb, eqb}
-use lib.ListN.{length, getD}
+use lib.ListN.{length, take, drop, getD}
 use Rattle.symbol.specs.Word.{isCall}
-use Rattle.tiling.specs.Tally.{one, tally}
+use Rattle.tiling.specs.Tally.{one}
+use Rattle.window.specs.Hash.{wordsHash}
+use Rattle.index.specs.Built.{someOf}
 
--- Some word has remainder k modulo 1,024.
-abbrev pub occurs : List ℕ → ℕ → Bool
-occurs ws k = ltb 0 (tally (λ w. eqb (w % 1024) k) ws)
+-- The place of a hash among 1,024: the leading bits of its product with an odd number.
+unfoldable pub place : ℕ → ℕ
+place h = h * 2654435769 % 2 ^ 32 / 2 ^ 22
+
+-- The i-th of the windows of s words that are taken, every step-th, has place k.
+abbrev pub taken : List ℕ → ℕ → ℕ → ℕ → ℕ → ℕ → Bool
+taken ws b s step k i = eqb (place (wordsHash b (take s (drop (i * step) ws)))) k
+
+-- One of them has it, from the i-th on.
+abbrev pub someTaken : List ℕ → ℕ → ℕ → ℕ → ℕ → ℕ → Bool
+someTaken ws b s step k i = someOf (taken ws b s step k) i ((length ws - s) / step + 1 - i)
 
 -- How many of the numbers below n pass a test.
 unfoldable pub countBelow : (ℕ → Bool) → ℕ → ℕ
 countBelow test zero = 0
 countBelow test (suc n) = countBelow test n + one (test n)
 
--- How many different remainders some words have.
-abbrev pub kinds : List ℕ → ℕ
-kinds ws = countBelow (occurs ws) 1024
-
--- The remainders that words have are marked.
-pub record Marked (ws marked : List ℕ) : Type 0 where
-  pub entries : (k : ℕ) → k < 1024 → getD marked k 0 ≡ one (occurs ws k)
+-- The places of the windows that are taken are marked.
+pub record Marked (ws : List ℕ) (b s step : ℕ) (marked : List ℕ) : Type 0 where
+  pub entries : (k : ℕ) → k < 1024 → getD marked k 0 ≡ one (someTaken ws b s step k 0)
 
 -- How many of the first n are.
 abbrev pub marks : List ℕ → ℕ → ℕ
 marks marked n = countBelow (λ k. not (eqb (getD marked k 0) 0)) n
 
--- The first search length: the one given where the pattern's words are of so few kinds that there are fewer than a sixteenth as many different
--- windows of the minimum length as it has words; else the minimum.
-unfoldable pub firstLength : List ℕ → ℕ → ℕ → ℕ
-firstLength pattern minimum given =
-    elim (ltb (16 * max 1 (kinds pattern) ^ minimum) (length pattern)) [ true ↦ given | false ↦ minimum ]
+-- How many different places some 64 windows of s words have.
+unfoldable pub different : List ℕ → ℕ → ℕ → ℕ
+different ws b s = elim (ltb (length ws) s) [ true ↦ 0 | false ↦ countBelow (λ k. someTaken ws b s ((length ws - s) / 64 + 1) k 0) 1024 ]
+
+-- A length from s on whose windows differ, tried so many times, doubled each time as long as more of them differ than did before; else the
+-- minimum.
+unfoldable pub climbed : List ℕ → ℕ → ℕ → ℕ → ℕ → ℕ → ℕ
+climbed ws b minimum s few zero = minimum
+climbed ws b minimum s few (suc n) =
+    elim (leb 44 (different ws b s))
+    [ true ↦ s | false ↦ elim (leb (different ws b s) few) [ true ↦ minimum | false ↦ climbed ws b minimum (s * 2) (different ws b s) n ] ]
+
+-- The first search length: the minimum where the pattern is short or its windows of the minimum length differ; else one from the length given on.
+unfoldable pub firstLength : List ℕ → ℕ → ℕ → ℕ → ℕ
+firstLength pattern b minimum given =
+    elim (leb (length pattern) 256)
+    [ true ↦ minimum | false ↦ elim (leb 44 (different pattern b minimum)) [ true ↦ minimum | false ↦ climbed pattern b minimum given (different pattern b minimum) 3 ] ]
 
 -- How many calls a list begins with, and the longest stretch of calls.
 abbrev pub longer : Bool → ℕ → ℕ
@@ -51,3 +69,7 @@ longest (w ∷ ws) = max (longest ws) (stretch (w ∷ ws))
 -- The longest stretch that is left after a pass with search length s; 0 where none was to come after it.
 unfoldable pub left : List ℕ → ℕ → ℕ → ℕ
 left pattern minimum s = elim (leb s minimum) [ true ↦ 0 | false ↦ longest pattern ]
+
+-- A quarter of the search length where more than half of the words are covered, else half of it.
+unfoldable pub partOf : ℕ → ℕ → ℕ → ℕ
+partOf s covered n = elim (ltb n (2 * covered)) [ true ↦ s / 4 | false ↦ s / 2 ]

@@ -3,13 +3,13 @@
 use index::Pass;
 ghost use mathlib.Core.Path.{_≡_};
 ghost use mathlib.Core.Bool.{not};
-ghost use Prim.Native.Nat.{_*_, _/_, _%_, _^_, _≤_, _<_, min, max};
-ghost use lib.Dec.{ltb, eqb};
+ghost use Prim.Native.Nat.{_≤_, _<_, min, max};
+ghost use lib.Dec.{eqb};
 ghost use lib.ListN.{length, replicate};
 ghost use Rattle.symbol.specs.Word.{isCall};
 ghost use Rattle.tiling.specs.Tally.{one};
 ghost use Rattle.sweep.specs.Workspace.{Space, state};
-ghost use Rattle.lengths.specs.Lengths.{Marked, marks, kinds, firstLength, longer, longest, left};
+ghost use Rattle.lengths.specs.Lengths.{place, Marked, marks, different, climbed, firstLength, longer, longest, left, partOf};
 
 // The larger of two lengths.
 fn larger(a: usize, b: usize) -> usize
@@ -21,23 +21,25 @@ fn larger(a: usize, b: usize) -> usize
     a
 }
 
-// The remainder of a word modulo 1,024.
-fn rest_of(w: u32) -> usize
-    ensures { λ r. ⌜ (r ≡ w % 1024) × (r < 1024) ⌝ }
+// The place of a hash among 1,024.
+fn place_of(h: u32) -> usize
+    ensures { λ r. ⌜ (r ≡ place h) × (r < 1024) ⌝ }
 {
-    (w % 1024) as usize
+    ((h as u64) * 2654435769 % 0x1_0000_0000 / 0x40_0000) as usize
 }
 
-// Marks the remainders that the words have, from the last word to the first.
-fn mark_rests(words: &[u32], marked: &mut [u32; 1024])
-    requires { ⌜ now marked ≡ replicate 1024 0 ⌝ }
-    ensures { λ r. ⌜ Marked (now (words .entry)) (now (marked .exit)) ⌝ }
+// Marks the places of every step-th window of s words, from the last to the first.
+fn mark_windows(words: &[u32], b: u32, s: usize, step: usize, marked: &mut [u32; 1024])
+    requires { ⌜ (1 ≤ step) × (1 ≤ s) × (s ≤ length (now words)) × (length (now words) ≤ 2048) × (now marked ≡ replicate 1024 0) ⌝ }
+    ensures { λ r. ⌜ Marked (now (words .entry)) b s step (now (marked .exit)) ⌝ }
 {
-    let mut i = words.len();
+    let mut i = (words.len() - s) / step + 1;
     while 0 < i {
         i -= 1;
-        let rest = rest_of(words[i]);
-        sweep::store(marked, rest, 1);
+        let at = i * step;
+        let end = at + s;
+        let h = window::hash_of(b, &words[at..end]);
+        sweep::store(marked, place_of(h), 1);
     }
 }
 
@@ -64,44 +66,60 @@ fn count_marked(marked: &[u32; 1024]) -> usize
     count
 }
 
-// How many different remainders modulo 1,024 some words have. There are at least as many codes.
-fn count_kinds(words: &[u32]) -> usize
-    ensures { λ r. ⌜ r ≡ kinds (now (words .entry)) ⌝ }
+// How many different places some 64 windows of s words have, taken at equal distances; 0 where no window fits.
+fn differing(words: &[u32], b: u32, s: usize) -> usize
+    requires { ⌜ (1 ≤ s) × (length (now words) ≤ 2048) ⌝ }
+    ensures { λ r. ⌜ r ≡ different (now (words .entry)) b s ⌝ }
 {
+    if words.len() < s {
+        return 0;
+    }
     let mut marked = [0u32; 1024];
-    mark_rests(words, &mut marked);
+    let step = (words.len() - s) / 64 + 1;
+    mark_windows(words, b, s, step, &mut marked);
     count_marked(&marked)
 }
 
-// Whether so few kinds of words make too few different windows of the minimum length: fewer than a sixteenth of the words.
-fn crowded(kinds: usize, minimum: usize, n: usize) -> bool
-    requires { ⌜ (1 ≤ kinds) × (kinds ≤ 1024) × (n ≤ 2048) ⌝ }
-    ensures { λ r. ⌜ r ≡ ltb (16 * kinds ^ minimum) n ⌝ }
+// A length whose windows differ, from s on: s, or twice, or four times that, as long as more of them differ than did before.
+// Where none is found it is the minimum: longer windows are alike as well.
+fn climb(words: &[u32], b: u32, minimum: usize, s: usize, few: usize) -> usize
+    requires { ⌜ (length (now words) ≤ 2048) × (1 ≤ s) × (s ≤ 2048) ⌝ }
+    ensures { λ r. ⌜ r ≡ climbed (now (words .entry)) b minimum s few 3 ⌝ }
 {
-    let mut windows = 1;
-    let mut i = 0;
-    while i < minimum {
-        if n <= 16 * windows {
-            return false;
+    let mut length = s;
+    let mut before = few;
+    let mut i = 0usize;
+    while i < 3 {
+        let now = differing(words, b, length);
+        if 44 <= now {
+            return length;
         }
-        windows *= kinds;
+        if now <= before {
+            return minimum;
+        }
+        before = now;
+        length *= 2;
         i += 1;
     }
-    16 * windows < n
+    minimum
 }
 
-// The search length of the first pass: the minimum, so that one pass is all; but where windows so short are too much alike, the
-// length that the pass was given.
+// The search length of the first pass: the minimum, so that one pass is all; but where the pattern is long and windows so short
+// are too much alike, a length from the one that the pass was given on.
 pub fn first_length(ws: &[u32], pass: Pass) -> usize
-    requires { ⌜ Space (pass .job) (now ws) ⌝ }
-    ensures { λ r. ⌜ r ≡ firstLength (state (pass .job) (now (ws .entry)) .pattern) (pass .job .minimum) (pass .s) ⌝ }
+    requires { ⌜ Space (pass .job) (now ws) × (1 ≤ pass .job .minimum) × (1 ≤ pass .s) × (pass .s ≤ 2048) ⌝ }
+    ensures { λ r. ⌜ r ≡ firstLength (state (pass .job) (now (ws .entry)) .pattern) (pass .multiplier) (pass .job .minimum) (pass .s) ⌝ }
 {
     let n = pass.job.n;
-    let kinds = larger(1, count_kinds(&ws[0..n]));
-    if crowded(kinds, pass.job.minimum, n) {
-        return pass.s;
+    let minimum = pass.job.minimum;
+    if n <= 256 {
+        return minimum;
     }
-    pass.job.minimum
+    let few = differing(&ws[0..n], pass.multiplier, minimum);
+    if 44 <= few {
+        return minimum;
+    }
+    climb(&ws[0..n], pass.multiplier, minimum, pass.s, few)
 }
 
 // One more than the stretch after a call, and 0 where the word is no call.
@@ -143,9 +161,22 @@ pub fn left_of(ws: &[u32], pass: Pass) -> usize
     longest_stretch(&ws[0..n])
 }
 
-// The next search length: half, or the longest stretch where that is shorter, and at least the minimum.
-pub fn next_length(s: usize, minimum: usize, stretch: usize) -> usize
-    ensures { λ r. ⌜ r ≡ max minimum (min (s / 2) stretch) ⌝ }
+// A quarter of the search length where more than half of n words are covered, else half of it.
+fn part_of(s: usize, covered: usize, n: usize) -> usize
+    requires { ⌜ covered ≤ 2048 ⌝ }
+    ensures { λ r. ⌜ r ≡ partOf s covered n ⌝ }
 {
-    larger(minimum, sweep::lesser(s / 2, stretch))
+    if n < 2 * covered {
+        return s / 4;
+    }
+    s / 2
+}
+
+// The next search length: such a part, or the longest stretch where that is shorter, and at least the minimum.
+pub fn next_length(pass: Pass, stretch: usize, covered: usize) -> usize
+    requires { ⌜ covered ≤ 2048 ⌝ }
+    ensures { λ r. ⌜ r ≡ max (pass .job .minimum) (min (partOf (pass .s) covered (pass .job .n)) stretch) ⌝ }
+{
+    let part = part_of(pass.s, covered, pass.job.n);
+    larger(pass.job.minimum, sweep::lesser(part, stretch))
 }

@@ -1,7 +1,7 @@
 -- Pass after pass. An index changes no word of the sequences, so nothing is laid by building one; a pass has laid every tile as long as its search
 -- length; and what the passes lay follows one another. Any search length will do for a pass.
 -- Assumes nothing.
-use Prim.Native.Nat.{ℕ, _/_, _≤_, _<_, min, max}
+use Prim.Native.Nat.{ℕ, _≤_, _<_, min, max}
 use native.Mathlib.Decide.{decLt}
 use native.Mathlib.Omega.{arith}
 use mathlib.Core.Path.{_≡_, refl, _∙_, ap}
@@ -12,12 +12,13 @@ use Rattle.tiling.proofs.Best.{best-is}
 use Rattle.sweep.specs.Workspace.{state}
 use Rattle.sweep.specs.Progress.{Fits, Onward, Ready, Finished}
 use Rattle.sweep.specs.declared.Totals.{Totals}
+use Rattle.sweep.proofs.Workspace.{pattern-length}
 use Rattle.sweep.proofs.Turn.{onward-none, onward-more, unmoved-fits, unmoved-finished}
 use Rattle.index.specs.Indexed.{Ranges}
 use Rattle.index.specs.Built.{Built}
 use Rattle.index.specs.declared.Pass.{Pass}
 use Rattle.rows.specs.Reached.{FilledRows}
-use Rattle.lengths.specs.Lengths.{firstLength, left}
+use Rattle.lengths.specs.Lengths.{firstLength, left, partOf}
 use Rattle.lengths.proofs.Choice.{Between, first-between, left-more, left-all, Next, next-between}
 use Rattle.lengths.proofs.Stretches.{run-longest}
 use Rattle.passes.specs.Passing.{atLength}
@@ -62,11 +63,14 @@ resting-none x ws b k r f ranges h t =
     }
 
 module _ (x : Pass) (ws₀ b₀ : List ℕ) (k₀ : Totals) (ws b : List ℕ) (k : Totals) (y : Pass) (r : ℕ) (i : Resting x ws₀ b₀ k₀ ws b k y r) where
-  module _ (more : y .job .minimum ≤ r) (s : ℕ) (e : s ≡ max (y .job .minimum) (min (y .s / 2) r)) (z : Pass) (a : z ≡ atLength y s) where
+  pub resting-covered : k .covered ≤ 2048
+  resting-covered = omega (arith, i .fits .free, i .fits .space .short-pattern)
+
+  module _ (more : y .job .minimum ≤ r) (s : ℕ) (e : s ≡ max (y .job .minimum) (min (partOf (y .s) (k .covered) (y .job .n)) r)) (z : Pass) (a : z ≡ atLength y s) where
     -- The search length falls.
     next : Next (y .job .minimum) (y .s) s
     next =
-        next-between (y .job .minimum) (y .s) r s e
+        next-between (y .job .minimum) (y .s) (k .covered) (y .job .n) r s e
         (left-more (state (y .job) ws .pattern) (y .job .minimum) (y .s) r (i .stretched) (omega (arith, i .fits .least)))
 
     pub resting-less : z .s < y .s
@@ -113,16 +117,17 @@ module _ (x : Pass) (ws₀ b₀ : List ℕ) (k₀ : Totals) (ws b : List ℕ) (k
       go (no l) = omega (arith, i .short, l)
 
 -- ---- the first pass and the later ones
-module _ (x : Pass) (ws : List ℕ) (s : ℕ) (ranges : Ranges x) (e : s ≡ firstLength (state (x .job) ws .pattern) (x .job .minimum) (x .s)) (y : Pass) (at : y ≡ atLength x s) where
+module _ (x : Pass) (ws : List ℕ) (s : ℕ) (ranges : Ranges x) (e : s ≡ firstLength (state (x .job) ws .pattern) (x .multiplier) (x .job .minimum) (x .s)) (y : Pass) (at : y ≡ atLength x s) where
   pub first-ranges : (b : List ℕ) (k : Totals) → Fits (x .job) ws b k → Ranges y
   first-ranges b k f =
-      let c : Between (x .job .minimum) (x .s) s = first-between (state (x .job) ws .pattern) (x .job .minimum) (x .s) s (ranges .enough) e in
+      let short : length (state (x .job) ws .pattern) ≤ 2048 = omega (arith, pattern-length (x .job) ws (f .space), f .space .short-pattern) in
+      let c : Between (x .job .minimum) s = first-between (state (x .job) ws .pattern) (x .multiplier) (x .job .minimum) (x .s) s short (ranges .enough) (ranges .most) e in
       rw at
       (record {
         some-bucket = ranges .some-bucket;
         few-buckets = ranges .few-buckets;
         one = omega (arith, f .least, c .least);
-        most = omega (arith, ranges .most, c .most);
+        most = c .most;
         enough = c .least;
       })
 

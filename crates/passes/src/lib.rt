@@ -74,7 +74,7 @@ fn later_passes(ws: &mut [u32], pass: Pass, tiles: &mut [u32], totals: Totals) -
     let mut now = pass;
     let mut stretch = lengths::left_of(ws, pass);
     while now.job.minimum <= stretch {
-        let s = lengths::next_length(now.s, now.job.minimum, stretch);
+        let s = lengths::next_length(now, stretch, sum.covered);
         now = at_length(now, s);
         sum = one_pass(ws, now, tiles, sum);
         stretch = lengths::left_of(ws, now);

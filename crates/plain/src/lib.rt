@@ -104,14 +104,21 @@ fn search_kept(
 }
 
 // A length up to cap that no run of the row at p exceeds, where none exceeds cap: as the row tells it that was searched last, or
-// cap itself where that is taken over, or as a search finds it. It looks for runs of half the minimum: where there is none, the
-// rows before need no search for as many words more.
-fn capped(ws: &[u32], job: Job, last: &mut usize, p: PatternAt, cap: usize) -> Found
+// cap itself where that is taken over from the row after, or as a search finds it. It looks for runs of half the minimum: where
+// there is none, the rows before need no search for as many words more.
+fn capped(
+    ws: &[u32],
+    job: Job,
+    last: &mut usize,
+    p: PatternAt,
+    after: TextAt,
+    cap: usize,
+) -> Found
     requires { ⌜ Space job (now ws) × (p .0 < job .n) × (1 ≤ job .minimum) × (job .minimum ≤ 256) × (job .minimum ≤ cap) × RowBound job (state job (now ws)) (p .0) cap × UpperFrom job (now ws) (p .0 + 1) ⌝ }
     ensures { λ r. ⌜ RowBound job (state job (now (ws .entry))) (p .0) (r .len) ⌝ }
 {
     let known = sweep::bound_by(ws, job, p, PatternAt(*last), PatternAt(p.0 + 1), cap);
-    if known < cap || sweep::taken_over(job.minimum, cap) {
+    if known < cap || sweep::taken_over(after, job.minimum, cap) {
         return Found {
             t: TextAt(0),
             len: known,
@@ -146,7 +153,7 @@ fn row_bound(ws: &[u32], job: Job, last: &mut usize, p: PatternAt, after: Found)
             len: cap,
         };
     }
-    capped(ws, job, last, p, cap)
+    capped(ws, job, last, p, after.t, cap)
 }
 
 // Sets the bound of each row, from the last to the first.

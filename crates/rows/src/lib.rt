@@ -187,21 +187,22 @@ fn goes_on(ws: &[u32], job: Job, p: PatternAt, t: TextAt) -> bool
     symbol::equal_calls(ws[on_pattern], ws[on_text])
 }
 
-// A length up to cap that no run of the row at p exceeds, where none exceeds cap: as another row tells it, or cap itself where
-// that is taken over, or as a search finds it.
+// A length up to cap that no run of the row at p exceeds, where none exceeds cap: as another row tells it, or cap itself, or as a
+// search finds it. Cap is taken over only where the run of the row after began at the text's beginning, so that it could not go on.
 fn capped(
     ws: &[u32],
     pass: Pass,
     heads: &[u32; 1024],
     last: &mut [u32; 1024],
     p: PatternAt,
+    after: TextAt,
     cap: usize,
 ) -> Found
     requires { ⌜ Space (pass .job) (now ws) × Indexed pass (now ws) (now heads) × Ranges pass × (p .0 < pass .job .n) × (pass .s ≤ cap) × RowBound (pass .job) (state (pass .job) (now ws)) (p .0) cap × UpperFrom (pass .job) (now ws) (p .0 + 1) ⌝ }
     ensures { λ r. ⌜ RowBound (pass .job) (state (pass .job) (now (ws .entry))) (p .0) (r .len) ⌝ }
 {
     let known = told(ws, pass, last, p, PatternAt(p.0 + 1), cap);
-    if known < cap || sweep::taken_over(pass.s, cap) {
+    if known < cap || sweep::taken_over(after, pass.s, cap) {
         return Found {
             t: TextAt(0),
             len: known,
@@ -250,7 +251,7 @@ fn row_bound(
             len: pass.s - 1,
         };
     }
-    capped(ws, pass, heads, last, p, cap)
+    capped(ws, pass, heads, last, p, after.t, cap)
 }
 
 // Sets the bound of each row, from the last to the first.

@@ -160,6 +160,6 @@ bound-told j ws p cap r c t = record { most = λ u. most u (decLt r cap); within
     within (yes l) = omega (arith, t .inside l)
     within (no l) = omega (arith, t .within, c .within)
 
-pub taken-is : (s cap : ℕ) → leb (2 * s) cap && not (eqb (bitAnd cap (cap - 1)) 0) ≡ takenOver s cap
+pub taken-is : (t s cap : ℕ) → (eqb t 0 && leb (2 * s) cap) && not (eqb (bitAnd cap (cap - 1)) 0) ≡ takenOver t s cap
 unfolding takenOver
-taken-is s cap = refl
+taken-is t s cap = refl

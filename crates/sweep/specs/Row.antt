@@ -47,6 +47,6 @@ alikeBound j ws p q cap =
 unfoldable pub boundBy : Job → List ℕ → ℕ → ℕ → ℕ → ℕ → ℕ
 boundBy j ws p q from cap = elim (leb from q && ltb q (j .n)) [ true ↦ alikeBound j ws p q cap | false ↦ cap ]
 
--- A length of at least twice s that is no power of 2.
-unfoldable pub takenOver : ℕ → ℕ → Bool
-takenOver s cap = leb (2 * s) cap && not (eqb (bitAnd cap (cap - 1)) 0)
+-- What is taken over from a row whose run began at position t: where that is 0, a length of at least twice s that is no power of 2.
+unfoldable pub takenOver : ℕ → ℕ → ℕ → Bool
+takenOver t s cap = (eqb t 0 && leb (2 * s) cap) && not (eqb (bitAnd cap (cap - 1)) 0)

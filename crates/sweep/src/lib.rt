@@ -251,13 +251,14 @@ pub fn bound_by(ws: &[u32], job: Job, p: PatternAt, q: PatternAt, from: PatternA
     alike_bound(ws, job, p, q, cap)
 }
 
-// Whether a bound is taken over from the row after, without a search: from 2 s words on, unless it is a power of 2. So no bound
-// is twice what a search would have found, and a long run is measured only a few times.
-pub fn taken_over(s: usize, cap: usize) -> bool
+// Whether a bound is taken over from the row after, without a search: where the run found there began at the text's beginning,
+// so that it could not go on, and from 2 s words on, unless it is a power of 2. So no bound is twice what a search would have
+// found, and a long run is measured only a few times.
+pub fn taken_over(after: TextAt, s: usize, cap: usize) -> bool
     requires { ⌜ (s ≤ 2048) × (1 ≤ cap) ⌝ }
-    ensures { λ r. ⌜ r ≡ takenOver s cap ⌝ }
+    ensures { λ r. ⌜ r ≡ takenOver (after .0) s cap ⌝ }
 {
-    (2 * s <= cap) & (cap & (cap - 1) != 0)
+    (after.0 == 0) & (2 * s <= cap) & (cap & (cap - 1) != 0)
 }
 
 // Marks the words of a tile on both sequences, and clears the bounds of the rows that it covers.

@@ -29,7 +29,7 @@ fn power(b: u32, e: usize) -> u32
 }
 
 // The hash of a whole window of words as they stand.
-fn hash_of(b: u32, window: &[u32]) -> u32
+pub fn hash_of(b: u32, window: &[u32]) -> u32
     ensures { λ r. ⌜ r ≡ wordsHash b (now (window .entry)) ⌝ }
 {
     let mut h = 0;

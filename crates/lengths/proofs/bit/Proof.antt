@@ -1,6 +1,6 @@
 -- `lengths::bit` meets its contract.
 -- Assumes nothing.
-use Rattle.lengths.proofs.Rests.{bit-none, bit-one}
+use Rattle.lengths.proofs.Samples.{bit-none, bit-one}
 use Rattle.lengths.proofs.bit.Statement.{statement}
 use Rattle.lengths.proofs.bit.Tie as tie
 

@@ -1,7 +1,7 @@
 -- `lengths::count_marked` meets its contract: at the head of each turn those before i are counted.
 -- Assumes nothing.
 use Prim.Native.Nat.{_-_}
-use Rattle.lengths.proofs.Rests.{Counting, counting-none, counting-fits, counting-more, counting-all}
+use Rattle.lengths.proofs.Samples.{Counting, counting-none, counting-fits, counting-more, counting-all}
 use borrow.Author.Needs.{needs}
 use Rattle.lengths.proofs.count_marked.Statement.{statement}
 use Rattle.lengths.proofs.count_marked.Tie as tie

@@ -5,8 +5,8 @@ use borrow.Author.Needs.{needs}
 use Rattle.rows.proofs.capped.Statement.{statement}
 use Rattle.rows.proofs.capped.Tie as tie
 
-add-t9 : tie.Need-add-t9
-add-t9 c = search needs
+add-t10 : tie.Need-add-t10
+add-t10 c = search needs
 
 told-requires : tie.Need-told-requires
 told-requires c κs = search needs
@@ -26,4 +26,4 @@ returns-2 c = search bound-found
 pub capped-spec : {M : Type 1} → statement M
 capped-spec =
     tie.close
-    (tie.spec add-t9 told-requires taken-over-requires returns search-row-requires returns-2)
+    (tie.spec add-t10 told-requires taken-over-requires returns search-row-requires returns-2)

@@ -1,0 +1,29 @@
+-- `lengths::differing` meets its contract: what is marked is counted.
+-- Assumes nothing.
+use Rattle.lengths.proofs.Samples.{different-none, different-counted}
+use borrow.Author.Needs.{needs}
+use Rattle.lengths.proofs.differing.Statement.{statement}
+use Rattle.lengths.proofs.differing.Tie as tie
+
+returns : tie.Need-returns
+returns c = search different-none
+
+sub-step : tie.Need-sub-step
+sub-step c = search needs
+
+add-step : tie.Need-add-step
+add-step c = search needs
+
+mark-windows-requires : tie.Need-mark-windows-requires
+mark-windows-requires c κs = search needs
+
+count-marked-requires : tie.Need-count-marked-requires
+count-marked-requires c κs = search needs
+
+returns-2 : tie.Need-returns-2
+returns-2 c = search different-counted
+
+pub differing-spec : {M : Type 1} → statement M
+differing-spec =
+    tie.close
+    (tie.spec returns sub-step add-step mark-windows-requires count-marked-requires returns-2)
