@@ -110,11 +110,11 @@ module _ (j : Job) (ws : List ℕ) (b given : ℕ) (s : Space j ws) where
         let k : leb 44 (different (state j ws .pattern) b (j .minimum)) ≡ true = rw (← counted) (le-leb 44 few h) in
         rw (firstLength, pattern-length j ws s, lt-leb (j .n) 256 long, k) refl
 
-    pub first-climbed : few < 44 → (r : ℕ) → r ≡ climbed (take (j .n - 0) (drop 0 ws)) b (j .minimum) given few 3 → r ≡ firstLength (state j ws .pattern) b (j .minimum) given
+    pub first-climbed : few < 44 → (low from r : ℕ) → low ≡ min given 64 → from ≡ max (j .minimum) low → r ≡ climbed (take (j .n - 0) (drop 0 ws)) b (j .minimum) from few 3 → r ≡ firstLength (state j ws .pattern) b (j .minimum) given
     unfolding firstLength
-    first-climbed h r w =
+    first-climbed h low from r el ef w =
         let k : leb 44 (different (state j ws .pattern) b (j .minimum)) ≡ false = rw (← counted) (lt-leb 44 few h) in
-        w ∙ rw (firstLength, pattern-length j ws s, lt-leb (j .n) 256 long, k, words, ← counted) refl
+        w ∙ rw (firstLength, pattern-length j ws s, lt-leb (j .n) 256 long, k, words, ← counted, ef, el) refl
 
 -- It is at least the minimum, and no longer than a sequence may be.
 between-least : (minimum : ℕ) → minimum ≤ 2048 → Between minimum minimum
@@ -136,10 +136,10 @@ unfolding firstLength
 first-between pattern b minimum given s l h m e =
     rw e (go (leb (length pattern) 256) (leb 44 (different pattern b minimum)))
   where
-    go : (c d : Bool) → Between minimum (elim c [ true ↦ minimum | false ↦ elim d [ true ↦ minimum | false ↦ climbed pattern b minimum given (different pattern b minimum) 3 ] ])
+    go : (c d : Bool) → Between minimum (elim c [ true ↦ minimum | false ↦ elim d [ true ↦ minimum | false ↦ climbed pattern b minimum (max minimum (min given 64)) (different pattern b minimum) 3 ] ])
     go true d = between-least minimum (omega arith)
     go false true = between-least minimum (omega arith)
-    go false false = climbed-between pattern b minimum l (omega arith) 3 given (different pattern b minimum) h
+    go false false = climbed-between pattern b minimum l (omega arith) 3 (max minimum (min given 64)) (different pattern b minimum) (omega arith)
 
 -- ---- what is left
 pub left-none : (pattern : List ℕ) (minimum s : ℕ) → s ≤ minimum → 0 ≡ left pattern minimum s
@@ -164,17 +164,17 @@ unfolding left
 left-all pattern minimum s r e h = e ∙ rw (left, lt-leb s minimum h) refl
 
 -- ---- the next length
-pub part-quarter : (s covered n : ℕ) → n < 2 * covered → s / 4 ≡ partOf s covered n
+pub part-quarter : (s covered n : ℕ) → 2 * n < 3 * covered → s / 4 ≡ partOf s covered n
 unfolding partOf
-part-quarter s covered n h = rw (partOf, lt-ltb n (2 * covered) h) refl
+part-quarter s covered n h = rw (partOf, lt-ltb (2 * n) (3 * covered) h) refl
 
-pub part-half : (s covered n : ℕ) → 2 * covered ≤ n → s / 2 ≡ partOf s covered n
+pub part-half : (s covered n : ℕ) → 3 * covered ≤ 2 * n → s / 2 ≡ partOf s covered n
 unfolding partOf
-part-half s covered n h = rw (partOf, le-ltb n (2 * covered) h) refl
+part-half s covered n h = rw (partOf, le-ltb (2 * n) (3 * covered) h) refl
 
 part-less : (s covered n : ℕ) → 1 ≤ s → partOf s covered n < s
 unfolding partOf
-part-less s covered n h = go (ltb n (2 * covered))
+part-less s covered n h = go (ltb (2 * n) (3 * covered))
   where
     go : (c : Bool) → elim c [ true ↦ s / 4 | false ↦ s / 2 ] < s
     go true = omega arith

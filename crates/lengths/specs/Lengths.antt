@@ -1,5 +1,5 @@
 -- Which search lengths the passes have. No reader of the engines' contracts needs these: any lengths would do.
-use Prim.Native.Nat.{ℕ, zero, suc, _+_, _-_, _*_, _/_, _%_, _^_, _<_, max}
+use Prim.Native.Nat.{ℕ, zero, suc, _+_, _-_, _*_, _/_, _%_, _^_, _<_, min, max}
 use mathlib.Core.Path.{_≡_}
 use mathlib.Core.Bool.{Bool, true, false, not}
 use mathlib.Core.List.{List, [], _∷_}
@@ -47,11 +47,12 @@ climbed ws b minimum s few (suc n) =
     elim (leb 44 (different ws b s))
     [ true ↦ s | false ↦ elim (leb (different ws b s) few) [ true ↦ minimum | false ↦ climbed ws b minimum (s * 2) (different ws b s) n ] ]
 
--- The first search length: the minimum where the pattern is short or its windows of the minimum length differ; else one from the length given on.
+-- The first search length: the minimum where the pattern is short or its windows of the minimum length differ; else one from the length given on, or from 64
+-- where that is less.
 unfoldable pub firstLength : List ℕ → ℕ → ℕ → ℕ → ℕ
 firstLength pattern b minimum given =
     elim (leb (length pattern) 256)
-    [ true ↦ minimum | false ↦ elim (leb 44 (different pattern b minimum)) [ true ↦ minimum | false ↦ climbed pattern b minimum given (different pattern b minimum) 3 ] ]
+    [ true ↦ minimum | false ↦ elim (leb 44 (different pattern b minimum)) [ true ↦ minimum | false ↦ climbed pattern b minimum (max minimum (min given 64)) (different pattern b minimum) 3 ] ]
 
 -- How many calls a list begins with, and the longest stretch of calls.
 abbrev pub longer : Bool → ℕ → ℕ
@@ -70,6 +71,6 @@ longest (w ∷ ws) = max (longest ws) (stretch (w ∷ ws))
 unfoldable pub left : List ℕ → ℕ → ℕ → ℕ
 left pattern minimum s = elim (leb s minimum) [ true ↦ 0 | false ↦ longest pattern ]
 
--- A quarter of the search length where more than half of the words are covered, else half of it.
+-- A quarter of the search length where more than two thirds of the words are covered, else half of it.
 unfoldable pub partOf : ℕ → ℕ → ℕ → ℕ
-partOf s covered n = elim (ltb n (2 * covered)) [ true ↦ s / 4 | false ↦ s / 2 ]
+partOf s covered n = elim (ltb (2 * n) (3 * covered)) [ true ↦ s / 4 | false ↦ s / 2 ]

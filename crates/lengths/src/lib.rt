@@ -105,9 +105,9 @@ fn climb(words: &[u32], b: u32, minimum: usize, s: usize, few: usize) -> usize
 }
 
 // The search length of the first pass: the minimum, so that one pass is all; but where the pattern is long and windows so short
-// are too much alike, a length from the one that the pass was given on.
+// are too much alike, a length from the one that the pass was given on, or from 64 where that is less.
 pub fn first_length(ws: &[u32], pass: Pass) -> usize
-    requires { ⌜ Space (pass .job) (now ws) × (1 ≤ pass .job .minimum) × (1 ≤ pass .s) × (pass .s ≤ 2048) ⌝ }
+    requires { ⌜ Space (pass .job) (now ws) × (1 ≤ pass .job .minimum) × (pass .job .minimum ≤ pass .s) × (pass .s ≤ 2048) ⌝ }
     ensures { λ r. ⌜ r ≡ firstLength (state (pass .job) (now (ws .entry)) .pattern) (pass .multiplier) (pass .job .minimum) (pass .s) ⌝ }
 {
     let n = pass.job.n;
@@ -119,7 +119,8 @@ pub fn first_length(ws: &[u32], pass: Pass) -> usize
     if 44 <= few {
         return minimum;
     }
-    climb(&ws[0..n], pass.multiplier, minimum, pass.s, few)
+    let from = larger(minimum, sweep::lesser(pass.s, 64));
+    climb(&ws[0..n], pass.multiplier, minimum, from, few)
 }
 
 // One more than the stretch after a call, and 0 where the word is no call.
@@ -161,12 +162,12 @@ pub fn left_of(ws: &[u32], pass: Pass) -> usize
     longest_stretch(&ws[0..n])
 }
 
-// A quarter of the search length where more than half of n words are covered, else half of it.
+// A quarter of the search length where more than two thirds of n words are covered, else half of it.
 fn part_of(s: usize, covered: usize, n: usize) -> usize
-    requires { ⌜ covered ≤ 2048 ⌝ }
+    requires { ⌜ (covered ≤ 2048) × (n ≤ 2048) ⌝ }
     ensures { λ r. ⌜ r ≡ partOf s covered n ⌝ }
 {
-    if n < 2 * covered {
+    if 2 * n < 3 * covered {
         return s / 4;
     }
     s / 2
@@ -174,7 +175,7 @@ fn part_of(s: usize, covered: usize, n: usize) -> usize
 
 // The next search length: such a part, or the longest stretch where that is shorter, and at least the minimum.
 pub fn next_length(pass: Pass, stretch: usize, covered: usize) -> usize
-    requires { ⌜ covered ≤ 2048 ⌝ }
+    requires { ⌜ (covered ≤ 2048) × (pass .job .n ≤ 2048) ⌝ }
     ensures { λ r. ⌜ r ≡ max (pass .job .minimum) (min (partOf (pass .s) covered (pass .job .n)) stretch) ⌝ }
 {
     let part = part_of(pass.s, covered, pass.job.n);

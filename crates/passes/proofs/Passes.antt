@@ -66,6 +66,9 @@ module _ (x : Pass) (ws₀ b₀ : List ℕ) (k₀ : Totals) (ws b : List ℕ) (k
   pub resting-covered : k .covered ≤ 2048
   resting-covered = omega (arith, i .fits .free, i .fits .space .short-pattern)
 
+  pub resting-short : y .job .n ≤ 2048
+  resting-short = i .fits .space .short-pattern
+
   module _ (more : y .job .minimum ≤ r) (s : ℕ) (e : s ≡ max (y .job .minimum) (min (partOf (y .s) (k .covered) (y .job .n)) r)) (z : Pass) (a : z ≡ atLength y s) where
     -- The search length falls.
     next : Next (y .job .minimum) (y .s) s

@@ -23,6 +23,12 @@ differing-requires c κs = search needs
 returns-2 : tie.Need-returns-2
 returns-2 c = search first-many
 
+lesser-requires : tie.Need-lesser-requires
+lesser-requires c κs = search needs
+
+larger-requires : tie.Need-larger-requires
+larger-requires c κs = search needs
+
 sub-climb : tie.Need-sub-climb
 sub-climb c = search needs
 
@@ -48,6 +54,8 @@ first-length-spec =
     part-differing-end
     differing-requires
     returns-2
+    lesser-requires
+    larger-requires
     sub-climb
     part-climb-start
     part-climb-end

@@ -1,7 +1,7 @@
 -- `passes::later_passes` meets its contract: at the head of each turn nothing as long as the search length is left, and no run is longer than the
 -- stretch.
 -- Assumes nothing.
-use Rattle.passes.proofs.Passes.{Resting, resting-none, resting-covered, resting-fits, resting-ranges, resting-less, resting-more, resting-done}
+use Rattle.passes.proofs.Passes.{Resting, resting-none, resting-covered, resting-short, resting-fits, resting-ranges, resting-less, resting-more, resting-done}
 use borrow.Author.Needs.{needs}
 use Rattle.passes.proofs.later_passes.Statement.{statement}
 use Rattle.passes.proofs.later_passes.Tie as tie
@@ -19,7 +19,7 @@ loop-holds : tie.Need-loop-holds Inv-loop μ-loop
 loop-holds c = search resting-none
 
 next-length-requires : tie.Need-next-length-requires Inv-loop μ-loop
-next-length-requires c κs = search resting-covered
+next-length-requires c κs = (search resting-covered, search resting-short)
 
 at-length-requires : tie.Need-at-length-requires Inv-loop μ-loop
 at-length-requires c κs = search needs
