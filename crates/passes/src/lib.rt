@@ -54,14 +54,7 @@ fn one_pass(ws: &mut [u32], pass: Pass, tiles: &mut [u32], totals: Totals) -> To
     let mut filter = [0u8; 4096];
     let mut last = [2048u32; 1024];
     let mut blocks = [0u32; 64];
-    prepare(
-        ws,
-        pass,
-        &mut heads,
-        &mut filter,
-        &mut last,
-        &mut blocks,
-    );
+    prepare(ws, pass, &mut heads, &mut filter, &mut last, &mut blocks);
     levels::lay_levels(ws, pass, &heads, &mut last, &mut blocks, tiles, totals)
 }
 

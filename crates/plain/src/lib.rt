@@ -106,14 +106,7 @@ fn search_kept(
 // A length up to cap that no run of the row at p exceeds, where none exceeds cap: as the row tells it that was searched last, or
 // cap itself where that is taken over from the row after, or as a search finds it. It looks for runs of half the minimum: where
 // there is none, the rows before need no search for as many words more.
-fn capped(
-    ws: &[u32],
-    job: Job,
-    last: &mut usize,
-    p: PatternAt,
-    after: TextAt,
-    cap: usize,
-) -> Found
+fn capped(ws: &[u32], job: Job, last: &mut usize, p: PatternAt, after: TextAt, cap: usize) -> Found
     requires { ⌜ Space job (now ws) × (p .0 < job .n) × (1 ≤ job .minimum) × (job .minimum ≤ 256) × (job .minimum ≤ cap) × RowBound job (state job (now ws)) (p .0) cap × UpperFrom job (now ws) (p .0 + 1) ⌝ }
     ensures { λ r. ⌜ RowBound job (state job (now (ws .entry))) (p .0) (r .len) ⌝ }
 {

@@ -29,13 +29,19 @@ use Rattle.sweep.proofs.Workspace.{rest-of-front, pattern-length}
 -- Of two lists cut after the same number of words.
 cut-match : (ps qs : List ℕ) (len : ℕ) → len < run (take (len + 1) ps) (take (len + 1) qs) → len < run ps qs
 cut-match ps qs len h =
-    omega (arith, run-least ps qs (len + 1) (λ i l.
-    rw (getD-take (len + 1) ps i 0 l, getD-take (len + 1) qs i 0 l) at (run-match (take (len + 1) ps) (take (len + 1) qs) i (omega arith))))
+    omega (
+      arith,
+      run-least ps qs (len + 1) (λ i l.
+          rw (getD-take (len + 1) ps i 0 l, getD-take (len + 1) qs i 0 l) at (run-match (take (len + 1) ps) (take (len + 1) qs) i (omega arith))),
+    )
 
 match-cut : (ps qs : List ℕ) (len : ℕ) → len < run ps qs → len < run (take (len + 1) ps) (take (len + 1) qs)
 match-cut ps qs len h =
-    omega (arith, run-least (take (len + 1) ps) (take (len + 1) qs) (len + 1) (λ i l.
-    rw (getD-take (len + 1) ps i 0 l, getD-take (len + 1) qs i 0 l) (run-match ps qs i (omega arith))))
+    omega (
+      arith,
+      run-least (take (len + 1) ps) (take (len + 1) qs) (len + 1) (λ i l.
+          rw (getD-take (len + 1) ps i 0 l, getD-take (len + 1) qs i 0 l) (run-match ps qs i (omega arith))),
+    )
 
 module _ (j : Job) (ws : List ℕ) (s : Space j ws) where
   abbrev row : ℕ → List ℕ

@@ -192,7 +192,13 @@ fn row_after(blocks: &[u32; 64], level: usize, p: usize) -> usize
 
 // The first row from `from` on whose bound is the level, or one past the last. Blocks of rows that are below the level are
 // passed over.
-pub fn next_row(ws: &[u32], job: Job, blocks: &[u32; 64], level: usize, from: PatternAt) -> PatternAt
+pub fn next_row(
+    ws: &[u32],
+    job: Job,
+    blocks: &[u32; 64],
+    level: usize,
+    from: PatternAt,
+) -> PatternAt
     requires { ⌜ Space job (now ws) × (from .0 ≤ job .n) × Covering job (now ws) (now blocks) ⌝ }
     ensures { λ r. ⌜ First (λ q. bound job (now (ws .entry)) q ≡ level) (from .0) (job .n) (r .0) ⌝ }
 {
@@ -238,7 +244,14 @@ fn alike_bound(ws: &[u32], job: Job, p: PatternAt, q: PatternAt, cap: usize) -> 
 }
 
 // The same of a row that need not be there: before `from`, or past the pattern, it tells nothing.
-pub fn bound_by(ws: &[u32], job: Job, p: PatternAt, q: PatternAt, from: PatternAt, cap: usize) -> usize
+pub fn bound_by(
+    ws: &[u32],
+    job: Job,
+    p: PatternAt,
+    q: PatternAt,
+    from: PatternAt,
+    cap: usize,
+) -> usize
     requires { ⌜ Space job (now ws) × (p .0 < job .n) ⌝ }
     ensures { λ r. ⌜ r ≡ boundBy job (now (ws .entry)) (p .0) (q .0) (from .0) cap ⌝ }
 {
