@@ -1,7 +1,7 @@
 //! The cover at every minimum from one run, beside a comparison at each minimum and beside one at the
 //! least.
 
-use super::table::{About, Everywhere, Limit, Measure, Table, USUAL};
+use super::table::{About, Everywhere, Limit, Measure, Rows, Table, USUAL};
 use super::{all_agree, timing, Column, Heeds, Job, Promises, FAST, START};
 use crate::reference::COVER_WORDS;
 use sigxume::{raw, Settings};
@@ -56,7 +56,7 @@ static TABLE: Table = Table {
     everywhere: &[Everywhere {
         measure: Measure::Ratio(&COVER, &FAST),
         most: 1.15,
-        own_hash: false,
+        rows: Rows::All,
         others: &[],
         exceptions: &[],
     }],

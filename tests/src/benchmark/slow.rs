@@ -2,7 +2,7 @@
 //! worst.
 
 use super::runs::parse;
-use super::table::{About, Everywhere, Least, Measure, Table};
+use super::table::{About, Everywhere, Least, Measure, Rows, Table};
 use super::{all_agree, Job, Promises, FAST, PLAIN, START, WISE};
 use crate::pairs::{broken, calls, periodic, shuffled, unrelated, Pair};
 use crate::random::Random;
@@ -17,6 +17,14 @@ const SEED: u64 = 1;
 /// of the words counts; that of which the last word and the lowest bit of the one before count.
 pub const MULTIPLIERS: [u32; 4] = [257, 0, 1, 1 << 31];
 
+/// The worst inputs that were known before: each of them at every setting.
+const STRETCHES: [&str; 4] = [
+    "stretches against one code",
+    "stretches from 20 on",
+    "stretches from 60 on",
+    "one code, broken",
+];
+
 #[rustfmt::skip]
 static TABLE: Table = Table {
     name: "slow inputs",
@@ -28,21 +36,28 @@ static TABLE: Table = Table {
         Everywhere {
             measure: Measure::Ratio(&FAST, &WISE),
             most: 2.0,
-            own_hash: true,
+            rows: Rows::Named(&STRETCHES),
+            others: &[],
+            exceptions: &[],
+        },
+        Everywhere {
+            measure: Measure::Ratio(&FAST, &WISE),
+            most: 3.0,
+            rows: Rows::OwnHash,
             others: &[],
             exceptions: &[],
         },
         Everywhere {
             measure: Measure::Milliseconds(&FAST),
             most: 100.0,
-            own_hash: false,
+            rows: Rows::All,
             others: &[],
             exceptions: &[],
         },
         Everywhere {
             measure: Measure::Milliseconds(&PLAIN),
             most: 90.0,
-            own_hash: false,
+            rows: Rows::All,
             others: &[],
             exceptions: &[],
         },

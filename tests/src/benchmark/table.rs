@@ -184,12 +184,30 @@ impl Limit {
     }
 }
 
+/// The rows of which something is promised.
+pub enum Rows {
+    All,
+    /// Those where multiplier and buckets are the library's own.
+    OwnHash,
+    /// Those of these pairs.
+    Named(&'static [&'static str]),
+}
+
+impl Rows {
+    fn has(&self, row: &Timed) -> bool {
+        match self {
+            Self::All => true,
+            Self::OwnHash => row.own_hash,
+            Self::Named(names) => names.contains(&&*row.name),
+        }
+    }
+}
+
 /// What is promised of every pair.
 pub struct Everywhere {
     pub measure: Measure,
     pub most: f64,
-    /// Whether it is promised only where multiplier and buckets are the library's own.
-    pub own_hash: bool,
+    pub rows: Rows,
     /// The pairs with another limit.
     pub others: &'static [(&'static str, f64)],
     /// The pairs that are excepted from it, each with the reason.
@@ -262,7 +280,7 @@ impl Table {
     /// breaks the promise by itself, all others in one line.
     fn note_everywhere(&self, all: &Everywhere, rows: &[Timed], promises: &mut Promises) {
         let (mut kept, mut worst) = (0, None);
-        for row in rows.iter().filter(|row| row.own_hash || !all.own_hash) {
+        for row in rows.iter().filter(|row| all.rows.has(row)) {
             let (measured, what) = self.measured(row, &all.measure);
             let own = all.others.iter().find(|(name, _)| *name == row.name);
             let limit = Limit::AtMost(own.map_or(all.most, |(_, most)| *most));

@@ -1,7 +1,7 @@
 //! The time of a comparison: the fast engine beside Wise's port on ordinary pairs, the plain engine beside
 //! the tilings that have no index, and both engines at rising lengths.
 
-use super::table::{shown, time, About, Everywhere, Limit, Measure, Table, USUAL};
+use super::table::{shown, time, About, Everywhere, Limit, Measure, Rows, Table, USUAL};
 use super::{
     all_agree, exponent, head, row, Job, Promises, FAST, LITERAL, PAIR, PLAIN, START, TUNED, WISE,
 };
@@ -28,12 +28,18 @@ const PART: [usize; 2] = [1_000, 64];
 
 /// The pairs on which the fast engine may be slower than the plain one, because its index cannot pay,
 /// each with the reason.
-const INDEX_CANNOT_PAY: [(&str, &str); 4] = [
+const INDEX_CANNOT_PAY: [(&str, &str); 9] = [
+    ("identical", ONE_SEARCH),
+    ("one code", ONE_SEARCH),
+    ("one code, broken", ONE_SEARCH),
+    ("periodic", ONE_SEARCH),
+    ("wc3.5 wc4.5", ONE_SEARCH),
     ("short, 32 words", NOT_YET),
     ("short, 64 words", NOT_YET),
     ("short, 128 words", NOT_YET),
     ("short, 256 words", NOT_YET),
 ];
+const ONE_SEARCH: &str = "one search or a few find the tiles, and an index costs more than they do";
 const NOT_YET: &str = "an index costs more than looking at all pairs";
 
 #[rustfmt::skip]
@@ -46,7 +52,7 @@ static ORDINARY: Table = Table {
     everywhere: &[Everywhere {
         measure: Measure::Ratio(&FAST, &WISE),
         most: 1.0,
-        own_hash: false,
+        rows: Rows::All,
         others: &[
             ("related", 0.6),
             ("unrelated", 0.6),
@@ -77,7 +83,7 @@ static TILINGS: Table = Table {
     everywhere: &[Everywhere {
         measure: Measure::Ratio(&FAST, &PLAIN),
         most: 1.0,
-        own_hash: false,
+        rows: Rows::All,
         others: &[],
         exceptions: &INDEX_CANNOT_PAY,
     }],
