@@ -3,12 +3,12 @@
 -- its entry it becomes the head.
 -- Assumes nothing.
 use Prim.Native.Nat.{ℕ, _+_, _-_, _≤_, _<_}
-use native.Mathlib.Decide.{decLt, decLe, ℕ-discrete}
+use native.Mathlib.Decide.{decLt, ℕ-discrete}
 use native.Mathlib.Omega.{arith}
 use mathlib.Core.Path.{_≡_, refl, sym, _∙_, ap}
 use mathlib.Core.Bool.{Bool, true, false, _&&_}
 use mathlib.Core.List.{List}
-use borrow.Author.Tests.{lt-ltb, le-ltb, le-leb, lt-leb, eq-eqb, ne-eqb}
+use borrow.Author.Tests.{lt-ltb, le-leb, lt-leb, eq-eqb, ne-eqb}
 use lib.Dec.{leb, ltb, eqb}
 use Rattle.symbol.proofs.Word.{and-right}
 use lib.ListN.{length, getD, set, replicate, getD-replicate, List·getD-eq-default}
@@ -18,11 +18,11 @@ use Rattle.sweep.specs.Workspace.{Space, state, boundsFrom}
 use Rattle.sweep.specs.declared.Job.{Job}
 use Rattle.sweep.proofs.Workspace.{state-set, space-kept}
 use Rattle.index.specs.Indexed.{patternHash, textHash, link, slot, Ranges}
-use Rattle.index.specs.Built.{freeAt, raisedFrom, listed, inBucket, nextIn, linkedFrom, entryOf, Raised, takes, when, Entered, Linked}
+use Rattle.index.specs.Built.{freeAt, raisedFrom, listed, inBucket, nextIn, linkedFrom, entryOf, Raised, takes, Entered, Linked}
 use Rattle.index.specs.declared.Pass.{Pass}
 use Rattle.index.proofs.Bucket.{bucket-below, slot-below}
 use Rattle.index.proofs.First.{first-least, first-same, next-here, next-later, next-none, some-none, some-here, some-later, some-same}
-use Rattle.index.proofs.Free.{free-end, free-inside, free-same}
+use Rattle.index.proofs.Free.{free-end, free-same}
 
 -- ---- the pattern's windows
 pub record Raising (j : Job) (ws fs : List ℕ) (p : ℕ) : Type 0 where
@@ -37,9 +37,6 @@ raising-none j ws fs fresh =
     }
 
 module _ (j : Job) (ws fs : List ℕ) (p : ℕ) (r : Raising j ws fs p) where
-  pub raising-inside : 0 < p → p - 1 < j .n
-  raising-inside h = omega (arith, r .within)
-
   pub raising-more : 0 < p → Space j ws → (h k : ℕ) (fs' : List ℕ) → h ≡ patternHash j ws (p - 1) → k ≡ slot h → fs' ≡ set fs k 1 → getD fs' k 0 ≡ 1 → Raising j ws fs' (p - 1)
   raising-more above space h k fs' eh ek ef here = record { within = omega (arith, r .within); entries = λ i l. entries i l (ℕ-discrete i k) }
     where

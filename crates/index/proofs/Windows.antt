@@ -5,10 +5,10 @@
 use Prim.Native.Nat.{ℕ, _+_, _-_, _≤_, _<_}
 use native.Mathlib.Omega.{arith}
 use mathlib.Core.Path.{_≡_, refl, sym, _∙_, ap}
-use mathlib.Core.Bool.{Bool, true, false, _&&_}
+use mathlib.Core.Bool.{true, _&&_}
 use mathlib.Core.List.{List, _++_}
 use borrow.Author.Tests.{le-leb, eq-eqb, eqb-true}
-use lib.Dec.{leb, eqb}
+use lib.Dec.{eqb}
 use lib.ListN.{length, take, drop, getD, length-drop, length-append, List·getD-append}
 use lib.Seq.{length-take-le, take-take, take-add, drop-at, take-at, getD-append-add, take-append-le, drop-append-le, drop-append-add}
 use Rattle.symbol.proofs.Word.{and-both, and-left, and-right}

@@ -21,7 +21,7 @@ use Rattle.sweep.specs.declared.Found.{Found}
 use Rattle.sweep.specs.declared.Job.{Job}
 use Rattle.sweep.specs.declared.Totals.{Totals}
 use Rattle.sweep.proofs.Step.{in-pattern, in-text}
-use Rattle.sweep.proofs.Turn.{Swept, swept-none, swept-row, swept-long, swept-more, swept-all, Level, level-none, level-sweep, level-more, level-less, level-done}
+use Rattle.sweep.proofs.Turn.{Swept, swept-none, swept-row, swept-long, swept-more, Level, level-none, level-sweep, level-more, level-less, level-done}
 use Rattle.index.specs.Indexed.{Ranges, Indexed}
 use Rattle.index.specs.declared.Pass.{Pass}
 use Rattle.index.proofs.Kept.{indexed-kept, kept-set, kept-laid}

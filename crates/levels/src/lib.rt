@@ -3,7 +3,6 @@ use index::Pass;
 use sweep::Round;
 use sweep::Totals;
 use tile::PatternAt;
-ghost use mathlib.Core.Path.{_≡_};
 ghost use Prim.Native.Nat.{_+_, _≤_, _<_};
 ghost use Rattle.sweep.specs.Workspace.{bound};
 ghost use Rattle.sweep.specs.Blocks.{Covering};

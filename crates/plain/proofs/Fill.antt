@@ -12,8 +12,6 @@ use lib.Dec.{ltb}
 use lib.ListN.{length, drop, getD, length-drop}
 use Rattle.symbol.specs.Word.{equalCalls}
 use Rattle.symbol.proofs.Word.{and-left}
-use Rattle.tiling.specs.Tiling.{State, runAt}
-use Rattle.tiling.proofs.Run.{run-within}
 use Rattle.tile.specs.declared.TextAt.{TextAt}
 use Rattle.sweep.specs.Workspace.{Space, state, bound}
 use Rattle.sweep.specs.Row.{Row, boundBy}

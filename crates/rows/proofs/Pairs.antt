@@ -14,7 +14,7 @@ use lib.ListN.{take, drop}
 use lib.Seq.{drop-drop}
 use Rattle.symbol.proofs.Sequence.{current-drop}
 use Rattle.tiling.specs.Run.{equalRun}
-use Rattle.tiling.specs.Tiling.{State, runAt}
+use Rattle.tiling.specs.Tiling.{runAt}
 use Rattle.tiling.proofs.Replaced.{run-current}
 use Rattle.tile.specs.declared.TextAt.{TextAt}
 use Rattle.sweep.specs.Workspace.{Space, state}

@@ -9,7 +9,7 @@ use native.Mathlib.Omega.{arith}
 use mathlib.Core.Path.{_≡_, refl, sym, _∙_, ap, subst}
 use mathlib.Core.Bool.{Bool, true, false}
 use mathlib.Core.List.{List, [], _∷_, _++_, map, append-assoc, map-append}
-use lib.ListN.{length, take, drop, getD, set, length-append, length-map, length-set, length-drop}
+use lib.ListN.{length, take, drop, getD, set, length-append, length-map, length-set}
 use lib.Seq.{getD-set-same, getD-set-other, getD-drop}
 use Rattle.symbol.specs.Word.{isCall}
 use Rattle.buffer.specs.Buffer.{onto}

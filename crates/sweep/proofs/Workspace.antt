@@ -6,8 +6,6 @@ use mathlib.Core.Path.{_≡_, refl, sym, _∙_, ap, subst}
 use mathlib.Core.List.{List, [], _∷_}
 use lib.ListN.{length, take, drop, getD, set, length-drop}
 use lib.Seq.{length-take-le, getD-drop, getD-take, take-nil, take-set-le, drop-set-add}
-use Rattle.symbol.specs.Word.{replaced}
-use Rattle.symbol.proofs.Sequence.{current-at}
 use Rattle.tiling.specs.Run.{mark}
 use Rattle.tiling.specs.Tiling.{State, lay, AllCurrent}
 use Rattle.tiling.proofs.Run.{length-mark, mark-before, mark-inside, mark-after}
@@ -84,13 +82,6 @@ pattern-length j ws s = length-take-le (j .n) ws (omega (arith, s .roomy))
 
 pub text-length : (j : Job) (ws : List ℕ) → Space j ws → length (state j ws .text) ≡ j .m
 text-length j ws s = length-take-le (j .m) (drop (j .n) ws) (omega (arith, s .roomy, length-drop (j .n) ws))
-
--- No word of them is a retired call.
-pub pattern-word : (j : Job) (ws : List ℕ) (p : ℕ) → Space j ws → p < j .n → replaced (getD ws p 0) ≡ getD ws p 0
-pattern-word j ws p s h = rw (getD-take (j .n) ws p 0 h) at (current-at (state j ws .pattern) (s .current .on-pattern) p)
-
-pub text-word : (j : Job) (ws : List ℕ) (t : ℕ) → Space j ws → t < j .m → replaced (getD ws (j .n + t) 0) ≡ getD ws (j .n + t) 0
-text-word j ws t s h = rw (getD-take (j .m) (drop (j .n) ws) t 0 h, getD-drop (j .n) ws t 0) at (current-at (state j ws .text) (s .current .on-text) t)
 
 -- ---- the bounds
 -- After a tile the rows that it covers have bound 0, and the others have what they had.

@@ -1,6 +1,6 @@
 -- `index::raise_rows` meets its contract: at the head of each turn the entries of the windows from p on are set.
 -- Assumes nothing.
-use Rattle.index.proofs.Linking.{Raising, raising-none, raising-inside, raising-more, raising-all}
+use Rattle.index.proofs.Linking.{Raising, raising-none, raising-more, raising-all}
 use borrow.Author.Needs.{needs}
 use Rattle.index.proofs.raise_rows.Statement.{statement}
 use Rattle.index.proofs.raise_rows.Tie as tie
