@@ -10,10 +10,10 @@ use mathlib.Core.Bool.{Bool, true, false}
 use mathlib.Core.List.{List, [], _∷_}
 use lib.Dec.{eqb, ltb}
 use lib.ListN.{length, take, drop, length-take}
-use lib.Seq.{getD-take, take-take, take-nil, take-at, length-take-le}
+use lib.Seq.{getD-take, take-take, take-at, length-take-le}
 use borrow.Author.Tests.{ltb-false, lt-ltb, le-ltb, eq-eqb, ne-eqb}
 use Rattle.buffer.specs.Buffer.{onto}
-use Rattle.buffer.proofs.Buffer.{length-onto}
+use Rattle.buffer.proofs.Buffer.{rest-of-front, length-onto}
 use Rattle.record.specs.Format.{idOf}
 use Rattle.record.specs.Reading.{head, count, sequence, closes}
 use Rattle.record.proofs.Reading.{framed}
@@ -24,14 +24,6 @@ use Rattle.report.specs.Written.{Written}
 use Rattle.report.proofs.Words.{words-cut}
 
 -- ---- lists that are cut off
-drop-take : (n m : ℕ) (l : List ℕ) → drop n (take (n + m) l) ≡ take m (drop n l)
-drop-take zero m l = let e : 0 + m ≡ m = omega arith in rw e refl
-drop-take (suc n) m [] = let e : suc n + m ≡ suc (n + m) = omega arith in rw e (sym (take-nil m))
-drop-take (suc n) m (x ∷ l) = let e : suc n + m ≡ suc (n + m) = omega arith in rw e (drop-take n m l)
-
-drop-cut : (n k : ℕ) (l : List ℕ) → n ≤ k → drop n (take k l) ≡ take (k - n) (drop n l)
-drop-cut n k l h = let e : k ≡ n + (k - n) = omega arith in ap (λ j. drop n (take j l)) e ∙ drop-take n (k - n) l
-
 module _ (src : List ℕ) (k : ℕ) (h : 2050 ≤ k) where
   head-same : head (take k src) ≡ head src
   head-same = getD-take k src 0 0 (omega arith)
@@ -53,7 +45,7 @@ module _ (src : List ℕ) (k : ℕ) (h : 2050 ≤ k) where
         go (no full) = rw (le-ltb (length (take k src)) (count src + 2) (omega (arith, length-take k src)), le-ltb (length src) (count src + 2) (omega arith)) refl
 
     words-same : take (count src) (drop 1 (take k src)) ≡ sequence src
-    words-same = ap (λ l. take (count src) l) (drop-cut 1 k src (omega arith)) ∙ take-take (count src) (k - 1) (drop 1 src) (omega arith)
+    words-same = ap (λ l. take (count src) l) (sym (rest-of-front 1 k src)) ∙ take-take (count src) (k - 1) (drop 1 src) (omega arith)
 
     closes-same : closes (take k src) ≡ closes src
     unfolding closes
@@ -91,7 +83,7 @@ first-same minimum src k h =
     (unless-same (reading src) _ _ (λ z.
     let short = read-short src z in
     let rest : 2050 ≤ k - (count src + 2) = omega arith in
-    rw (words-same src k far short, drop-cut (count src + 2) k src (omega arith))
+    rw (words-same src k far short, ← rest-of-front (count src + 2) k src)
     (second-same (idOf (head src)) minimum (sequence src) (drop (count src + 2) src) (k - (count src + 2)) rest)))
 
 pub words-enough : (ws : List ℕ) (k : ℕ) → inputWords ≤ k → fromWords (take k ws) ≡ fromWords ws

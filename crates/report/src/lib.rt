@@ -127,24 +127,24 @@ fn closing_lines(out: &mut [u8], at: usize, sum: u32, n: u32, m: u32, points: u3
     lines::line(out, of, b"SCORE", &[points])
 }
 
-// Writes the report of an accepted comparison, whose tiles are in the tile buffer.
-fn pair_lines(
-    out: &mut [u8],
+// What the report says of a pair besides the answer: the two fish, the minimum, and how many words each sequence has.
+struct Heading {
     a: u32,
     b: u32,
     minimum: u32,
     n: u32,
     m: u32,
-    answer: Compared,
-    tiles: &[u32],
-) -> usize
+}
+
+// Writes the report of an accepted comparison, whose tiles are in the tile buffer.
+fn pair_lines(out: &mut [u8], of: Heading, answer: Compared, tiles: &[u32]) -> usize
     requires { ⌜ reportBytes ≤ length (now out) ⌝ }
-    requires { ⌜ Laid n m answer (now tiles) ⌝ }
-    ensures { λ r. ⌜ Written (pairLines a b minimum n m (tilesIn (answer .tiles) (now (tiles .entry)))) (now (out .entry)) r (now (out .exit)) ⌝ }
+    requires { ⌜ Laid (of .n) (of .m) answer (now tiles) ⌝ }
+    ensures { λ r. ⌜ Written (pairLines (of .a) (of .b) (of .minimum) (of .n) (of .m) (tilesIn (answer .tiles) (now (tiles .entry)))) (now (out .entry)) r (now (out .exit)) ⌝ }
 {
-    let opened = opening_lines(out, a, b, minimum, answer.tiles);
+    let opened = opening_lines(out, of.a, of.b, of.minimum, answer.tiles);
     let listed = tile_lines(out, opened, tiles, answer.tiles as usize);
-    closing_lines(out, listed, answer.covered, n, m, answer.score)
+    closing_lines(out, listed, answer.covered, of.n, of.m, answer.score)
 }
 
 // The first search length: 20, or the minimum if larger.
@@ -182,16 +182,16 @@ fn compare(out: &mut [u8], a: u32, b: u32, minimum: u32, first: &[u32], second: 
     if answer.refusal != 0 {
         return refused_line(out, answer.refusal);
     }
-    pair_lines(
-        out,
+    let n = first.len() as u32;
+    let m = second.len() as u32;
+    let heading = Heading {
         a,
         b,
         minimum,
-        first.len() as u32,
-        second.len() as u32,
-        answer,
-        &tiles,
-    )
+        n,
+        m,
+    };
+    pair_lines(out, heading, answer, &tiles)
 }
 
 // Reads the second record and goes on to compare.

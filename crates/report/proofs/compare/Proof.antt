@@ -20,11 +20,11 @@ same-length c = search needs
 returns : tie.Need-returns
 returns c = search compared-refused
 
-cast-pair-lines : tie.Need-cast-pair-lines
-cast-pair-lines c = search needs
+cast-n : tie.Need-cast-n
+cast-n c = search needs
 
-cast-pair-lines-2 : tie.Need-cast-pair-lines-2
-cast-pair-lines-2 c = search needs
+cast-m : tie.Need-cast-m
+cast-m c = search needs
 
 slice-aggregate-pair-lines : tie.Need-slice-aggregate-pair-lines
 slice-aggregate-pair-lines c = search needs
@@ -47,8 +47,8 @@ compare-spec =
     refused-line-requires
     same-length
     returns
-    cast-pair-lines
-    cast-pair-lines-2
+    cast-n
+    cast-m
     slice-aggregate-pair-lines
     pair-lines-requires
     same-length-2
