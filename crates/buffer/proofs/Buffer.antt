@@ -9,8 +9,15 @@ use mathlib.Core.Logic.{⊎-elim}
 use mathlib.Core.Path.{_≡_, refl, sym, _∙_, ap}
 use mathlib.Core.List.{List, [], _∷_, _++_, append-assoc, append-nil}
 use lib.ListN.{length, take, drop, getD, set, length-append, length-drop, length-take, length-set, drop-of-length-le, List·getD-append}
-use lib.Seq.{drop-cons, take-suc, take-all, set-at, length-take-le, getD-at, getD-append-add, getD-drop, getD-set-same, getD-set-other, ext-getD, take-at, drop-at, drop-drop}
+use lib.Seq.{take-nil, drop-cons, take-suc, take-all, set-at, length-take-le, getD-at, getD-append-add, getD-drop, getD-set-same, getD-set-other, ext-getD, take-at, drop-at, drop-drop}
 use Rattle.buffer.specs.Buffer.{onto, tabulate}
+
+-- A part from p to n is the rest, from p on, of the part up to n.
+pub rest-of-front : (p n : ℕ) (xs : List ℕ) → take (n - p) (drop p xs) ≡ drop p (take n xs)
+rest-of-front zero n xs = let e : n - 0 ≡ n = omega arith in rw e refl
+rest-of-front (suc p) zero xs = let e : 0 - suc p ≡ 0 = omega arith in rw e refl
+rest-of-front (suc p) (suc n) [] = take-nil {A = ℕ} (suc n - suc p)
+rest-of-front (suc p) (suc n) (x ∷ xs) = let e : suc n - suc p ≡ n - p = omega arith in rw e (rest-of-front p n xs)
 
 pub length-onto : (front b : List ℕ) → length front ≤ length b → length (onto front b) ≡ length b
 length-onto front b h = simp (length-append, length-drop) (omega arith)

@@ -7,7 +7,7 @@ use mathlib.Core.Path.{_≡_, refl, _∙_}
 use mathlib.Core.List.{List}
 use lib.ListN.{getD, set}
 use Rattle.window.specs.Hash.{bucket}
-use Rattle.index.specs.Indexed.{slot}
+use Rattle.index.specs.Indexed.{slot, place}
 
 pub bucket-is : (k h : ℕ) → h % k ≡ bucket k h
 unfolding bucket
@@ -33,6 +33,13 @@ slot-small h = omega arith
 pub slot-below : (h : ℕ) → slot h < 4096
 unfolding slot
 slot-below h = slot-small h
+
+pub place-is : (k h : ℕ) → k ≡ slot h → k / 4 ≡ place h
+unfolding place
+place-is k h e = rw e refl
+
+pub place-small : (k : ℕ) → k < 4096 → k / 4 < 1024
+place-small k l = omega arith
 
 pub entry-at : (filter : List ℕ) (i h : ℕ) → i ≡ slot h → getD filter i 0 ≡ getD filter (slot h) 0
 entry-at filter i h e = rw e refl

@@ -10,10 +10,10 @@ use mathlib.Core.List.{List, _++_}
 use borrow.Author.Tests.{le-leb, eq-eqb, eqb-true}
 use lib.Dec.{eqb}
 use lib.ListN.{length, take, drop, getD, length-drop, length-append, List·getD-append}
-use lib.Seq.{length-take-le, take-take, take-add, drop-at, take-at, getD-append-add, take-append-le, drop-append-le, drop-append-add}
+use lib.Seq.{length-take-le, take-take, take-add, take-at, getD-append-add, take-append-le, drop-append-le, drop-append-add}
 use Rattle.symbol.proofs.Word.{and-both, and-left, and-right}
 use Rattle.buffer.specs.Buffer.{onto}
-use Rattle.buffer.proofs.Buffer.{length-onto}
+use Rattle.buffer.proofs.Buffer.{rest-of-front, length-onto}
 use Rattle.tiling.specs.Tiling.{State, runAt}
 use Rattle.tiling.proofs.Run.{run-within, run-words}
 use Rattle.window.specs.Hash.{wordsHash, bucket}
@@ -33,9 +33,6 @@ use Rattle.index.proofs.Kept.{row-inside, column-inside}
 -- A part of a front part.
 take-front : (a b : ℕ) (xs ys : List ℕ) → take (a + b) xs ≡ take (a + b) ys → take a xs ≡ take a ys
 take-front a b xs ys e = sym (take-take a (a + b) xs (omega arith)) ∙ (ap (take a) e ∙ take-take a (a + b) ys (omega arith))
-
-drop-front : (a b : ℕ) (xs : List ℕ) → a ≤ length xs → drop a (take (a + b) xs) ≡ take b (drop a xs)
-drop-front a b xs h = rw (take-add a b xs) (drop-at (take a xs) (take b (drop a xs)) a (length-take-le a xs h))
 
 -- ---- what the search may go by
 module _ (x : Pass) (ws hs fs : List ℕ) (ranges : Ranges x) (space : Space (x .job) ws) (on-pattern : (p : ℕ) → p + x .s ≤ x .job .n → patternHash (x .job) ws p ≡ hashAt (x .multiplier) (x .s) (state (x .job) ws .pattern) p) (on-text : (t : ℕ) → t + x .s ≤ x .job .m → textHash (x .job) ws t ≡ hashAt (x .multiplier) (x .s) (state (x .job) ws .text) t) (heads : (b : ℕ) → b < 1024 → getD hs b 0 ≡ nextIn x ws b 0) (links : (t : ℕ) → t < x .job .m → listed x ws t ≡ true → link (x .job) ws t ≡ nextIn x ws (bucket (x .buckets) (textHash (x .job) ws t)) (t + 1)) (entries : (i : ℕ) → i < 4096 → getD fs i 0 ≡ entryOf (raisedFrom (x .job) ws i 0) (linkedFrom x ws i 0)) where
@@ -145,8 +142,8 @@ module _ (x : Pass) (ws ws' : List ℕ) (space : Space (x .job) ws) (ranges : Ra
 
   same-text : take (j .m) (drop (j .n) ws') ≡ take (j .m) (drop (j .n) ws)
   same-text =
-      sym (drop-front (j .n) (j .m) ws' (omega (arith, hashed-length, space .roomy)))
-      ∙ (ap (drop (j .n)) same-front ∙ drop-front (j .n) (j .m) ws (omega (arith, space .roomy)))
+      let all : j .n + j .m - j .n ≡ j .m = omega arith in
+      rw (← all, rest-of-front (j .n) (j .n + j .m) ws', rest-of-front (j .n) (j .n + j .m) ws) (ap (drop (j .n)) same-front)
 
   hashed-state : state j ws' ≡ state j ws
   hashed-state = λ i. record { pattern = take-front (j .n) (j .m) ws' ws same-front i; text = same-text i }

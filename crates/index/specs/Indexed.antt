@@ -32,6 +32,10 @@ link j ws t = getD ws (boundsFrom j + j .n + t) 0
 unfoldable pub slot : ℕ → ℕ
 slot h = h * 2654435769 % 2 ^ 32 / 2 ^ 20
 
+-- And its place among 1,024, by two bits less.
+unfoldable pub place : ℕ → ℕ
+place h = slot h / 4
+
 -- What the search goes by while tiles are laid. Where a run of s words or more begins, the two windows have the same hash, and walking
 -- from the head of its bucket never steps over that position of the text. The positions on the way are those that were linked in
 -- the bucket. Past the last one stands a number that is not below the text's length.

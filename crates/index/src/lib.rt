@@ -8,7 +8,7 @@ ghost use Prim.Native.Nat.{_+_, _≤_, _<_};
 ghost use lib.ListN.{length, getD, set, replicate};
 ghost use Rattle.window.specs.Hash.{bucket};
 ghost use Rattle.sweep.specs.Workspace.{Space, boundsFrom};
-ghost use Rattle.index.specs.Indexed.{patternHash, textHash, link, slot, Ranges};
+ghost use Rattle.index.specs.Indexed.{patternHash, textHash, link, slot, place, Ranges};
 ghost use Rattle.index.specs.Built.{freeAt, Raised, Entered, Linked, Built};
 
 // A pass of the search: the comparison, the search length s, and how windows are hashed.
@@ -32,6 +32,13 @@ fn slot_of(h: u32) -> usize
     ensures { λ r. ⌜ (r ≡ slot h) × (r < 4096) ⌝ }
 {
     ((h as u64) * 2654435769 % 0x1_0000_0000 / 0x10_0000) as usize
+}
+
+// The place of a hash among 1,024.
+pub fn place_of(h: u32) -> usize
+    ensures { λ r. ⌜ (r ≡ place h) × (r < 1024) ⌝ }
+{
+    slot_of(h) / 4
 }
 
 // The hash of the pattern's window at a position.

@@ -53,9 +53,9 @@ pub climbing-none : (ws : List ℕ) (b minimum given few : ℕ) → length ws �
 climbing-none ws b minimum given few h o l = record { within = omega arith; short = h; some = o; small = omega arith; same = refl }
 
 module _ (ws : List ℕ) (b minimum given few i s before : ℕ) (c : Climbing ws b minimum given few i s before) where
-  pub climbing-done : 3 ≤ i → minimum ≡ climbed ws b minimum given few 3
+  pub climbing-done : 3 ≤ i → (l r : ℕ) → l ≡ min (s / 4) 2048 → r ≡ max minimum l → r ≡ climbed ws b minimum given few 3
   unfolding climbed
-  climbing-done h = let e : 3 - i ≡ 0 = omega arith in rw e at (c .same)
+  climbing-done h l r el er = let e : 3 - i ≡ 0 = omega arith in er ∙ (ap (max minimum) el ∙ rw e at (c .same))
 
   module _ (more : i < 3) (d : ℕ) (ed : d ≡ different ws b s) where
     tries : 3 - i ≡ suc (3 - (i + 1))
@@ -122,7 +122,7 @@ between-least minimum h = record { least = omega arith; most = h }
 
 climbed-between : (ws : List ℕ) (b minimum : ℕ) → length ws ≤ 2048 → minimum ≤ 2048 → (n s few : ℕ) → minimum ≤ s → Between minimum (climbed ws b minimum s few n)
 unfolding climbed
-climbed-between ws b minimum l h zero s few g = between-least minimum h
+climbed-between ws b minimum l h zero s few g = record { least = omega arith; most = omega arith }
 climbed-between ws b minimum l h (suc n) s few g =
     go (leb 44 (different ws b s)) refl (leb (different ws b s) few) (climbed-between ws b minimum l h n (s * 2) (different ws b s) (omega arith))
   where

@@ -1,6 +1,6 @@
 -- Some windows, marked by their places from the last to the first and then counted.
 -- Assumes nothing.
-use Prim.Native.Nat.{ℕ, zero, suc, _+_, _-_, _*_, _/_, _%_, _^_, _≤_, _<_}
+use Prim.Native.Nat.{ℕ, zero, suc, _+_, _-_, _*_, _/_, _^_, _≤_, _<_}
 use native.Mathlib.Nat.{le-div-iff-mul-le, div-le-self}
 use native.Mathlib.Decide.{decLt, ℕ-discrete}
 use native.Mathlib.Numerals.{add-one}
@@ -15,14 +15,8 @@ use lib.Seq.{getD-set-other}
 use Rattle.tiling.specs.Tally.{one}
 use Rattle.window.specs.Hash.{wordsHash}
 use Rattle.index.proofs.First.{some-none, some-here, some-later}
-use Rattle.lengths.specs.Lengths.{place, taken, someTaken, countBelow, Marked, marks, different}
-
-pub place-is : (h : ℕ) → h * 2654435769 % 2 ^ 32 / 2 ^ 22 ≡ place h
-unfolding place
-place-is h = refl
-
-pub place-small : (h : ℕ) → h * 2654435769 % 2 ^ 32 / 2 ^ 22 < 1024
-place-small h = omega arith
+use Rattle.index.specs.Indexed.{place}
+use Rattle.lengths.specs.Lengths.{taken, someTaken, countBelow, Marked, marks, different}
 
 -- ---- marking
 pub record Marking (ws : List ℕ) (b s step : ℕ) (marked : List ℕ) (i : ℕ) : Type 0 where

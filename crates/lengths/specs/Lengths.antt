@@ -1,5 +1,5 @@
 -- Which search lengths the passes have. No reader of the engines' contracts needs these: any lengths would do.
-use Prim.Native.Nat.{ℕ, zero, suc, _+_, _-_, _*_, _/_, _%_, _^_, _<_, min, max}
+use Prim.Native.Nat.{ℕ, zero, suc, _+_, _-_, _*_, _/_, _<_, min, max}
 use mathlib.Core.Path.{_≡_}
 use mathlib.Core.Bool.{Bool, true, false, not}
 use mathlib.Core.List.{List, [], _∷_}
@@ -8,11 +8,8 @@ use lib.ListN.{length, take, drop, getD}
 use Rattle.symbol.specs.Word.{isCall}
 use Rattle.tiling.specs.Tally.{one}
 use Rattle.window.specs.Hash.{wordsHash}
+use Rattle.index.specs.Indexed.{place}
 use Rattle.index.specs.Built.{someOf}
-
--- The place of a hash among 1,024: the leading bits of its product with an odd number.
-unfoldable pub place : ℕ → ℕ
-place h = h * 2654435769 % 2 ^ 32 / 2 ^ 22
 
 -- The i-th of the windows of s words that are taken, every step-th, has place k.
 abbrev pub taken : List ℕ → ℕ → ℕ → ℕ → ℕ → ℕ → Bool
@@ -39,10 +36,10 @@ marks marked n = countBelow (λ k. not (eqb (getD marked k 0) 0)) n
 unfoldable pub different : List ℕ → ℕ → ℕ → ℕ
 different ws b s = elim (ltb (length ws) s) [ true ↦ 0 | false ↦ countBelow (λ k. someTaken ws b s ((length ws - s) / 64 + 1) k 0) 1024 ]
 
--- A length from s on whose windows differ, tried so many times, doubled each time as long as more of them differ than did before; else the
--- minimum.
+-- A length from s on whose windows differ, tried so many times, doubled each time as long as more of them differ than did before. The minimum
+-- where no more of them do; a quarter of the next length where there are no tries left.
 unfoldable pub climbed : List ℕ → ℕ → ℕ → ℕ → ℕ → ℕ → ℕ
-climbed ws b minimum s few zero = minimum
+climbed ws b minimum s few zero = max minimum (min (s / 4) 2048)
 climbed ws b minimum s few (suc n) =
     elim (leb 44 (different ws b s))
     [ true ↦ s | false ↦ elim (leb (different ws b s) few) [ true ↦ minimum | false ↦ climbed ws b minimum (s * 2) (different ws b s) n ] ]

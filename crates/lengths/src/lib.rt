@@ -9,7 +9,7 @@ ghost use lib.ListN.{length, replicate};
 ghost use Rattle.symbol.specs.Word.{isCall};
 ghost use Rattle.tiling.specs.Tally.{one};
 ghost use Rattle.sweep.specs.Workspace.{Space, state};
-ghost use Rattle.lengths.specs.Lengths.{place, Marked, marks, different, climbed, firstLength, longer, longest, left, partOf};
+ghost use Rattle.lengths.specs.Lengths.{Marked, marks, different, climbed, firstLength, longer, longest, left, partOf};
 
 // The larger of two lengths.
 fn larger(a: usize, b: usize) -> usize
@@ -19,13 +19,6 @@ fn larger(a: usize, b: usize) -> usize
         return b;
     }
     a
-}
-
-// The place of a hash among 1,024.
-fn place_of(h: u32) -> usize
-    ensures { λ r. ⌜ (r ≡ place h) × (r < 1024) ⌝ }
-{
-    ((h as u64) * 2654435769 % 0x1_0000_0000 / 0x40_0000) as usize
 }
 
 // Marks the places of every step-th window of s words, from the last to the first.
@@ -39,7 +32,7 @@ fn mark_windows(words: &[u32], b: u32, s: usize, step: usize, marked: &mut [u32;
         let at = i * step;
         let end = at + s;
         let h = window::hash_of(b, &words[at..end]);
-        sweep::store(marked, place_of(h), 1);
+        sweep::store(marked, index::place_of(h), 1);
     }
 }
 
@@ -80,8 +73,8 @@ fn differing(words: &[u32], b: u32, s: usize) -> usize
     count_marked(&marked)
 }
 
-// A length whose windows differ, from s on: s, or twice, or four times that, as long as more of them differ than did before.
-// Where none is found it is the minimum: longer windows are alike as well.
+// A length whose windows differ, from s on: s, or twice, or four times that, as long as more of them differ than did before. Where
+// no more of them do it is the minimum: longer windows are alike as well. Where more do each time, but never enough, it is 2 s.
 fn climb(words: &[u32], b: u32, minimum: usize, s: usize, few: usize) -> usize
     requires { ⌜ (length (now words) ≤ 2048) × (1 ≤ s) × (s ≤ 2048) ⌝ }
     ensures { λ r. ⌜ r ≡ climbed (now (words .entry)) b minimum s few 3 ⌝ }
@@ -101,7 +94,7 @@ fn climb(words: &[u32], b: u32, minimum: usize, s: usize, few: usize) -> usize
         length *= 2;
         i += 1;
     }
-    minimum
+    larger(minimum, sweep::lesser(length / 4, 2048))
 }
 
 // The search length of the first pass: the minimum, so that one pass is all; but where the pattern is long and windows so short

@@ -75,8 +75,8 @@ fn later_passes(ws: &mut [u32], pass: Pass, tiles: &mut [u32], totals: Totals) -
     sum
 }
 
-// Lays every tile of at least the minimum, from the state that the workspace holds, by passes whose search lengths are at most
-// the one given.
+// Lays every tile of at least the minimum, from the state that the workspace holds, by passes of falling search lengths. The one
+// given says where to begin if windows of the minimum length are too much alike.
 pub fn tile_all(ws: &mut [u32], pass: Pass, tiles: &mut [u32], totals: Totals) -> Totals
     requires { ⌜ Fits (pass .job) (now ws) (now tiles) totals × Ranges pass ⌝ }
     ensures { λ r. ⌜ Finished (pass .job) (pass .job .minimum) (now (ws .entry)) (now (tiles .entry)) totals (now (ws .exit)) (now (tiles .exit)) r ⌝ }

@@ -7,45 +7,37 @@ use native.Mathlib.Omega.{arith}
 use mathlib.Core.Path.{_≡_, refl, sym, _∙_}
 use mathlib.Core.Bool.{Bool, true, false}
 use mathlib.Core.List.{List}
-use borrow.Author.Tests.{ltb-true, le-leb, lt-leb, lt-ltb}
+use borrow.Author.Tests.{ltb-true, lt-ltb, le-ltb}
 use lib.Dec.{ltb}
 use lib.ListN.{length, drop, getD, length-drop}
 use Rattle.symbol.specs.Word.{equalCalls}
 use Rattle.symbol.proofs.Word.{and-left}
 use Rattle.tile.specs.declared.TextAt.{TextAt}
 use Rattle.sweep.specs.Workspace.{Space, state, bound}
-use Rattle.sweep.specs.Row.{Row, boundBy}
+use Rattle.sweep.specs.Row.{Row, boundBy, before}
 use Rattle.sweep.specs.Progress.{Fits, Searched, UpperFrom, RowBound, Filled, Ready, Finished, Sweeping}
 use Rattle.sweep.specs.declared.Job.{Job}
 use Rattle.sweep.specs.declared.Found.{Found}
 use Rattle.sweep.specs.declared.Totals.{Totals}
-use Rattle.sweep.proofs.Told.{bound-tells, bound-told}
+use Rattle.sweep.proofs.Told.{bound-tells, bound-told, before-some}
 use Rattle.sweep.proofs.Row.{row-small}
 use Rattle.sweep.proofs.Turn.{unmoved-fits, unmoved-finished}
 use Rattle.sweep.proofs.Workspace.{pattern-length}
 use Rattle.plain.specs.Bounds.{Capped, goesOn}
 
 -- ---- a run that goes on
-module _ (j : Job) (ws : List ℕ) (p t : ℕ) where
-  pub goes-first : t ≡ 0 → false ≡ goesOn j ws p t
+module _ (j : Job) (ws : List ℕ) (p t u : ℕ) (e : u ≡ before t (j .m)) where
+  pub goes-not : j .m ≤ u → false ≡ goesOn j ws p t
   unfolding goesOn
-  goes-first e = rw (goesOn, e) refl
+  goes-not h = rw (goesOn, ← e, le-ltb u (j .m) h) refl
 
-  module _ (some : t ≡ 0 → ⊥) where
-    positive : ltb 0 t ≡ true
-    positive = lt-ltb 0 t (omega (arith, some))
-
-    pub goes-past : j .m < t → false ≡ goesOn j ws p t
-    unfolding goesOn
-    goes-past h = rw (goesOn, positive, lt-leb t (j .m) h) refl
-
-    pub goes-by : t ≤ j .m → (r : Bool) → r ≡ equalCalls (getD ws p 0) (getD ws (j .n + t - 1) 0) → r ≡ goesOn j ws p t
-    unfolding goesOn
-    goes-by inside r w = w ∙ rw (goesOn, positive, le-leb t (j .m) inside) refl
-
-  pub goes-back : (b : Bool) → b ≡ goesOn j ws p t → b ≡ true → 1 ≤ t
+  pub goes-by : u < j .m → (r : Bool) → r ≡ equalCalls (getD ws p 0) (getD ws (j .n + u) 0) → r ≡ goesOn j ws p t
   unfolding goesOn
-  goes-back b e z = omega (arith, ltb-true 0 t (and-left (ltb 0 t) _ (sym e ∙ z)))
+  goes-by h r w = w ∙ rw (goesOn, ← e, lt-ltb u (j .m) h) refl
+
+pub goes-back : (j : Job) (ws : List ℕ) (p t : ℕ) (b : Bool) → b ≡ goesOn j ws p t → b ≡ true → 1 ≤ t
+unfolding goesOn
+goes-back j ws p t b e z = before-some t (j .m) (ltb-true (before t (j .m)) (j .m) (and-left (ltb (before t (j .m)) (j .m)) _ (sym e ∙ z)))
 
 -- ---- one row
 module _ (j : Job) (ws : List ℕ) (p cap : ℕ) (space : Space j ws) where

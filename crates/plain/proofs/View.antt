@@ -8,13 +8,14 @@ use lib.ListN.{length, take, drop, length-take, length-drop}
 use lib.Seq.{take-take, getD-take}
 use Rattle.symbol.specs.Sequence.{Current}
 use Rattle.symbol.proofs.Sequence.{current-take, current-drop}
+use Rattle.buffer.proofs.Buffer.{rest-of-front}
 use Rattle.tiling.specs.Run.{run}
 use Rattle.tiling.proofs.Run.{run-within, run-match, run-least}
 use Rattle.sweep.specs.Workspace.{Space, state}
 use Rattle.sweep.specs.Row.{Row}
 use Rattle.sweep.specs.declared.Job.{Job}
 use Rattle.sweep.specs.declared.Found.{Found}
-use Rattle.sweep.proofs.Workspace.{rest-of-front, pattern-length}
+use Rattle.sweep.proofs.Workspace.{pattern-length}
 use Rattle.plain.specs.Bounds.{Capped}
 
 -- ---- a run of words that are cut

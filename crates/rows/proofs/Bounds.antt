@@ -7,24 +7,23 @@ use native.Mathlib.Omega.{arith}
 use mathlib.Core.Path.{_≡_, refl, sym, _∙_, ap, subst}
 use mathlib.Core.Bool.{Bool, true, false, _&&_}
 use mathlib.Core.List.{List}
-use borrow.Author.Tests.{ltb-true, le-leb, lt-leb, lt-ltb, le-ltb, eq-eqb, ne-eqb}
+use borrow.Author.Tests.{ltb-true, lt-ltb, le-ltb, eq-eqb, ne-eqb}
 use lib.Dec.{ltb, eqb}
 use lib.ListN.{drop, getD, set, length-drop}
 use Rattle.symbol.specs.Word.{equalCalls}
 use Rattle.symbol.proofs.Word.{and-left}
-use Rattle.window.specs.Hash.{bucket}
 use Rattle.tiling.specs.Tiling.{State, runAt}
 use Rattle.tiling.proofs.Run.{run-within}
 use Rattle.tile.specs.declared.TextAt.{TextAt}
 use Rattle.sweep.specs.Workspace.{Space, state, boundsFrom}
-use Rattle.sweep.specs.Row.{boundBy}
+use Rattle.sweep.specs.Row.{boundBy, before}
 use Rattle.sweep.specs.Progress.{UpperFrom, RowBound}
 use Rattle.sweep.specs.declared.Found.{Found}
 use Rattle.sweep.specs.declared.Job.{Job}
 use Rattle.sweep.proofs.Workspace.{pattern-length}
-use Rattle.sweep.proofs.Told.{Telling, telling-none, bound-tells, bound-told}
+use Rattle.sweep.proofs.Told.{Telling, telling-none, bound-tells, bound-told, before-some}
 use Rattle.sweep.proofs.Bounds.{Filling, filling-none, filling-more, filling-all}
-use Rattle.index.specs.Indexed.{Ranges, Indexed, Filtered, patternHash, textHash, slot}
+use Rattle.index.specs.Indexed.{Ranges, Indexed, Filtered, patternHash, textHash, slot, place}
 use Rattle.index.specs.Built.{when}
 use Rattle.index.specs.declared.Pass.{Pass}
 use Rattle.index.proofs.Kept.{Kept, indexed-kept, filtered-kept, kept-set}
@@ -34,12 +33,12 @@ use Rattle.rows.specs.Reached.{Reached, Looked, FilledRows, toldBy, goes
 pub remembered-not : (last : List ℕ) (len cap b p : ℕ) → cap ≤ len → last ≡ when (ltb len cap) (set last b p) last
 remembered-not last len cap b p h = rw (le-ltb len cap h) refl
 
-pub remembered-row : (x : Pass) (ws last last' : List ℕ) (len cap p own b : ℕ) → len < cap → own ≡ patternHash (x .job) ws p → b ≡ bucket (x .buckets) own → last' ≡ set last b p → last' ≡ when (ltb len cap) (set last (bucket (x .buckets) (patternHash (x .job) ws p)) p) last
+pub remembered-row : (x : Pass) (ws last last' : List ℕ) (len cap p own b : ℕ) → len < cap → own ≡ patternHash (x .job) ws p → b ≡ place own → last' ≡ set last b p → last' ≡ when (ltb len cap) (set last (place (patternHash (x .job) ws p)) p) last
 remembered-row x ws last last' len cap p own b h e f w = rw (lt-ltb len cap h, ← e, ← f) w
 
 -- ---- what a row that was remembered tells
-module _ (x : Pass) (ws last : List ℕ) (p from cap own b q : ℕ) (eo : own ≡ patternHash (x .job) ws p) (eb : b ≡ bucket (x .buckets) own) (eq : q ≡ getD last b 0) where
-  row : q ≡ getD last (bucket (x .buckets) (patternHash (x .job) ws p)) 0
+module _ (x : Pass) (ws last : List ℕ) (p from cap own b q : ℕ) (eo : own ≡ patternHash (x .job) ws p) (eb : b ≡ place own) (eq : q ≡ getD last b 0) where
+  row : q ≡ getD last (place (patternHash (x .job) ws p)) 0
   row = eq ∙ rw (eb, eo) refl
 
   pub told-past : x .job .n ≤ q → cap ≡ toldBy x ws last p from cap
@@ -61,7 +60,7 @@ module _ (x : Pass) (ws last : List ℕ) (p from cap own b q : ℕ) (eo : own �
 pub told-tells : (x : Pass) (ws last : List ℕ) (p from cap r : ℕ) → Space (x .job) ws → UpperFrom (x .job) ws from → r ≡ toldBy x ws last p from cap → Telling (x .job) ws p cap r
 unfolding toldBy
 told-tells x ws last p from cap r space upper e =
-    let q = getD last (bucket (x .buckets) (patternHash (x .job) ws p)) 0 in
+    let q = getD last (place (patternHash (x .job) ws p)) 0 in
     subst (λ z. Telling (x .job) ws p cap z) (sym e) (go q (ltb q (x .job .n) && eqb (patternHash (x .job) ws q) (patternHash (x .job) ws p)))
   where
     go : (q : ℕ) (c : Bool) → Telling (x .job) ws p cap (elim c [ true ↦ boundBy (x .job) ws p q from cap | false ↦ cap ])
@@ -90,31 +89,23 @@ module _ (x : Pass) (ws : List ℕ) (p cap : ℕ) (space : Space (x .job) ws) (r
       small (no l) = omega (arith, l, ranges .most)
 
 -- ---- a run that goes on
-module _ (j : Job) (ws : List ℕ) (p t : ℕ) where
-  pub goes-first : t ≡ 0 → false ≡ goesOn j ws p t
+module _ (j : Job) (ws : List ℕ) (p t u : ℕ) (e : u ≡ before t (j .m)) where
+  pub goes-not : j .m ≤ u → false ≡ goesOn j ws p t
   unfolding goesOn
-  goes-first e = rw (goesOn, e) refl
+  goes-not h = rw (goesOn, ← e, le-ltb u (j .m) h) refl
 
-  module _ (some : t ≡ 0 → ⊥) where
-    positive : ltb 0 t ≡ true
-    positive = lt-ltb 0 t (omega (arith, some))
-
-    pub goes-past : j .m < t → false ≡ goesOn j ws p t
+  module _ (inside : u < j .m) (h : Bool) (k : h ≡ eqb (textHash j ws u) (patternHash j ws p)) where
+    pub goes-unlike : h ≡ false → false ≡ goesOn j ws p t
     unfolding goesOn
-    goes-past h = rw (goesOn, positive, lt-leb t (j .m) h) refl
+    goes-unlike z = rw (goesOn, ← e, lt-ltb u (j .m) inside, ← k, z) refl
 
-    module _ (inside : t ≤ j .m) (h : Bool) (e : h ≡ eqb (textHash j ws (t - 1)) (patternHash j ws p)) where
-      pub goes-unlike : h ≡ false → false ≡ goesOn j ws p t
-      unfolding goesOn
-      goes-unlike z = let k : eqb (textHash j ws (t - 1)) (patternHash j ws p) ≡ false = sym e ∙ z in rw (goesOn, positive, le-leb t (j .m) inside, k) refl
+    pub goes-by : h ≡ true → (r : Bool) → r ≡ equalCalls (getD ws p 0) (getD ws (j .n + u) 0) → r ≡ goesOn j ws p t
+    unfolding goesOn
+    goes-by z r w = w ∙ rw (goesOn, ← e, lt-ltb u (j .m) inside, ← k, z) refl
 
-      pub goes-by : h ≡ true → (r : Bool) → r ≡ equalCalls (getD ws p 0) (getD ws (j .n + t - 1) 0) → r ≡ goesOn j ws p t
-      unfolding goesOn
-      goes-by z r w = let k : eqb (textHash j ws (t - 1)) (patternHash j ws p) ≡ true = sym e ∙ z in w ∙ rw (goesOn, positive, le-leb t (j .m) inside, k) refl
-
-  pub goes-back : (b : Bool) → b ≡ goesOn j ws p t → b ≡ true → 1 ≤ t
-  unfolding goesOn
-  goes-back b e z = omega (arith, ltb-true 0 t (and-left (ltb 0 t) _ (sym e ∙ z)))
+pub goes-back : (j : Job) (ws : List ℕ) (p t : ℕ) (b : Bool) → b ≡ goesOn j ws p t → b ≡ true → 1 ≤ t
+unfolding goesOn
+goes-back j ws p t b e z = before-some t (j .m) (ltb-true (before t (j .m)) (j .m) (and-left (ltb (before t (j .m)) (j .m)) _ (sym e ∙ z)))
 
 -- ---- one row
 module _ (x : Pass) (ws : List ℕ) where

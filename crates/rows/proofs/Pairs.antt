@@ -13,6 +13,7 @@ use lib.Dec.{eqb}
 use lib.ListN.{take, drop}
 use lib.Seq.{drop-drop}
 use Rattle.symbol.proofs.Sequence.{current-drop}
+use Rattle.buffer.proofs.Buffer.{rest-of-front}
 use Rattle.tiling.specs.Run.{equalRun}
 use Rattle.tiling.specs.Tiling.{runAt}
 use Rattle.tiling.proofs.Replaced.{run-current}
@@ -23,7 +24,6 @@ use Rattle.sweep.specs.declared.Found.{Found}
 use Rattle.sweep.specs.declared.Job.{Job}
 use Rattle.sweep.proofs.Row.{better-old}
 use Rattle.sweep.proofs.Bounds.{run-further}
-use Rattle.sweep.proofs.Workspace.{rest-of-front}
 use Rattle.index.specs.Indexed.{patternHash, textHash}
 use Rattle.index.specs.declared.Pass.{Pass}
 use Rattle.rows.specs.Reached.{Alike}

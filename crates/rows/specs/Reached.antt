@@ -1,20 +1,19 @@
 -- What searching a row by the index promises. No reader of the engines' contracts needs it.
-use Prim.Native.Nat.{ℕ, _+_, _-_, _≤_, _<_}
+use Prim.Native.Nat.{ℕ, _+_, _≤_, _<_}
 use mathlib.Core.Path.{_≡_}
 use mathlib.Core.Bool.{Bool, true, false, _&&_}
 use mathlib.Core.List.{List}
-use lib.Dec.{leb, ltb, eqb}
+use lib.Dec.{ltb, eqb}
 use lib.ListN.{drop, getD}
 use Rattle.symbol.specs.Word.{equalCalls}
-use Rattle.window.specs.Hash.{bucket}
 use Rattle.tiling.specs.Run.{run}
 use Rattle.tiling.specs.Tiling.{State, runAt}
 use Rattle.sweep.specs.Workspace.{state}
-use Rattle.sweep.specs.Row.{boundBy}
+use Rattle.sweep.specs.Row.{boundBy, before}
 use Rattle.sweep.specs.Progress.{Filled}
 use Rattle.sweep.specs.declared.Found.{Found}
 use Rattle.sweep.specs.declared.Job.{Job}
-use Rattle.index.specs.Indexed.{Indexed, patternHash, textHash}
+use Rattle.index.specs.Indexed.{Indexed, patternHash, textHash, place}
 use Rattle.index.specs.declared.Pass.{Pass}
 
 -- Where a run of s words or more begins, the two windows have the same hash.
@@ -38,14 +37,14 @@ pub record Looked (s : State) (p cap : ℕ) (f : Found) : Type 0 where
 -- What row q, which was remembered, tells of row p: nothing where it is past the pattern or its window has another hash.
 unfoldable pub toldBy : Pass → List ℕ → List ℕ → ℕ → ℕ → ℕ → ℕ
 toldBy x ws last p from cap =
-    let q = getD last (bucket (x .buckets) (patternHash (x .job) ws p)) 0 in
+    let q = getD last (place (patternHash (x .job) ws p)) 0 in
     elim (ltb q (x .job .n) && eqb (patternHash (x .job) ws q) (patternHash (x .job) ws p))
     [ true ↦ boundBy (x .job) ws p q from cap | false ↦ cap ]
 
 -- The windows at p and just before t have the same hash, and the words there are equal calls.
 unfoldable pub goesOn : Job → List ℕ → ℕ → ℕ → Bool
 goesOn j ws p t =
-    ltb 0 t && (leb t (j .m) && (eqb (textHash j ws (t - 1)) (patternHash j ws p) && equalCalls (getD ws p 0) (getD ws (j .n + t - 1) 0)))
+    ltb (before t (j .m)) (j .m) && (eqb (textHash j ws (before t (j .m))) (patternHash j ws p) && equalCalls (getD ws p 0) (getD ws (j .n + before t (j .m)) 0))
 
 -- Every row has its bound, and the index is as it was.
 pub record FilledRows (x : Pass) (heads ws ws' : List ℕ) : Type 0 where

@@ -10,12 +10,11 @@ ghost use mathlib.Core.Path.{_≡_};
 ghost use Prim.Native.Nat.{_+_, _-_, _≤_, _<_, max};
 ghost use lib.Dec.{eqb, ltb};
 ghost use lib.ListN.{drop, getD, set};
-ghost use Rattle.window.specs.Hash.{bucket};
 ghost use Rattle.tiling.specs.Tiling.{runAt};
 ghost use Rattle.sweep.specs.Workspace.{Space, state};
 ghost use Rattle.sweep.specs.Row.{better};
 ghost use Rattle.sweep.specs.Progress.{UpperFrom, RowBound};
-ghost use Rattle.index.specs.Indexed.{Ranges, Indexed, Filtered, patternHash, textHash};
+ghost use Rattle.index.specs.Indexed.{Ranges, Indexed, Filtered, patternHash, textHash, place};
 ghost use Rattle.index.specs.Built.{when};
 ghost use Rattle.rows.specs.Reached.{Alike, Reached, Looked, FilledRows, toldBy, goesOn};
 
@@ -83,25 +82,25 @@ fn row_search(ws: &[u32], pass: Pass, heads: &[u32; 1024], p: PatternAt, cap: us
     found
 }
 
-// The row that was remembered for a bucket; 2,048, which is past every pattern, where there is none.
-fn last_row(last: &[u32; 1024], bucket: usize) -> PatternAt
-    requires { ⌜ bucket < 1024 ⌝ }
-    ensures { λ r. ⌜ r .0 ≡ getD (now (last .entry)) bucket 0 ⌝ }
+// The row that was remembered at a place; 2,048, which is past every pattern, where there is none.
+fn last_row(last: &[u32; 1024], at: usize) -> PatternAt
+    requires { ⌜ at < 1024 ⌝ }
+    ensures { λ r. ⌜ r .0 ≡ getD (now (last .entry)) at 0 ⌝ }
 {
-    PatternAt(sweep::wide(last[bucket]))
+    PatternAt(sweep::wide(last[at]))
 }
 
-// Remembers a row for the bucket of its window, where its longest run is shorter than cap.
+// Remembers a row at the place of its window's hash, where its longest run is shorter than cap.
 fn remember(ws: &[u32], pass: Pass, last: &mut [u32; 1024], p: PatternAt, len: usize, cap: usize)
-    requires { ⌜ Space (pass .job) (now ws) × Ranges pass × (p .0 < pass .job .n) ⌝ }
-    ensures { λ r. ⌜ now (last .exit) ≡ when (ltb len cap) (set (now (last .entry)) (bucket (pass .buckets) (patternHash (pass .job) (now (ws .entry)) (p .0))) (p .0)) (now (last .entry)) ⌝ }
+    requires { ⌜ Space (pass .job) (now ws) × (p .0 < pass .job .n) ⌝ }
+    ensures { λ r. ⌜ now (last .exit) ≡ when (ltb len cap) (set (now (last .entry)) (place (patternHash (pass .job) (now (ws .entry)) (p .0))) (p .0)) (now (last .entry)) ⌝ }
 {
     if cap <= len {
         return;
     }
     let own = index::pattern_hash(ws, pass.job, p);
-    let bucket = index::bucket_of(own, pass.buckets);
-    last[bucket] = p.0 as u32;
+    let at = index::place_of(own);
+    last[at] = p.0 as u32;
 }
 
 // Searches row p, and remembers it.
@@ -121,7 +120,7 @@ fn search_row(
     found
 }
 
-// What the row that is remembered for the bucket of p's window tells of row p, of which no run exceeds cap: nothing, and then it
+// What the row that is remembered at the place of its window's hash tells of row p, of which no run exceeds cap: nothing, and then it
 // is cap, where the window of that row has another hash.
 fn told(
     ws: &[u32],
@@ -131,11 +130,11 @@ fn told(
     from: PatternAt,
     cap: usize,
 ) -> usize
-    requires { ⌜ Space (pass .job) (now ws) × Ranges pass × (p .0 < pass .job .n) ⌝ }
+    requires { ⌜ Space (pass .job) (now ws) × (p .0 < pass .job .n) ⌝ }
     ensures { λ r. ⌜ r ≡ toldBy pass (now (ws .entry)) (now (last .entry)) (p .0) (from .0) cap ⌝ }
 {
     let own = index::pattern_hash(ws, pass.job, p);
-    let q = last_row(last, index::bucket_of(own, pass.buckets));
+    let q = last_row(last, index::place_of(own));
     if pass.job.n <= q.0 {
         return cap;
     }
@@ -173,17 +172,15 @@ fn goes_on(ws: &[u32], job: Job, p: PatternAt, t: TextAt) -> bool
     requires { ⌜ Space job (now ws) × (p .0 < job .n) ⌝ }
     ensures { λ r. ⌜ r ≡ goesOn job (now (ws .entry)) (p .0) (t .0) ⌝ }
 {
-    if t.0 == 0 {
+    let before = sweep::one_before(t, job.m);
+    if job.m <= before.0 {
         return false;
     }
-    if job.m < t.0 {
-        return false;
-    }
-    if !same_hash(ws, job, p, TextAt(t.0 - 1)) {
+    if !same_hash(ws, job, p, before) {
         return false;
     }
     let on_pattern = p.0;
-    let on_text = job.n + t.0 - 1;
+    let on_text = job.n + before.0;
     symbol::equal_calls(ws[on_pattern], ws[on_text])
 }
 

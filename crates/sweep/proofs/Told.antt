@@ -1,7 +1,7 @@
 -- Rows alike. Where two rows begin with the same calls for more words than the bound of one of them, a run of the other that exceeds that bound
 -- would be one of the first as well.
 -- Assumes nothing.
-use Prim.Native.Nat.{ℕ, _+_, _-_, _*_, _≤_, _<_, max}
+use Prim.Native.Nat.{ℕ, zero, suc, _+_, _-_, _*_, _≤_, _<_, min, max}
 use native.Mathlib.Decide.{decLt}
 use native.Mathlib.Omega.{arith}
 use mathlib.Core.Path.{_≡_, refl, sym, _∙_, subst}
@@ -15,15 +15,16 @@ use lib.Seq.{take-take, getD-take}
 use Rattle.symbol.specs.Word.{replaced}
 use Rattle.symbol.proofs.Retired.{match-both}
 use Rattle.symbol.proofs.Sequence.{current-take, current-drop}
+use Rattle.buffer.proofs.Buffer.{rest-of-front}
 use Rattle.tiling.specs.Run.{run, equalRun}
 use Rattle.tiling.specs.Tiling.{State, runAt}
 use Rattle.tiling.proofs.Run.{run-within, run-match, run-least}
 use Rattle.tiling.proofs.Replaced.{run-current}
 use Rattle.sweep.specs.Workspace.{Space, state, bound}
-use Rattle.sweep.specs.Row.{alikeBound, boundBy, takenOver}
+use Rattle.sweep.specs.Row.{alikeBound, boundBy, before, takenOver}
 use Rattle.sweep.specs.Progress.{UpperFrom, RowBound}
 use Rattle.sweep.specs.declared.Job.{Job}
-use Rattle.sweep.proofs.Workspace.{rest-of-front, pattern-length}
+use Rattle.sweep.proofs.Workspace.{pattern-length}
 
 -- ---- the first words of two rows
 -- Of two lists cut after the same number of words.
@@ -169,3 +170,18 @@ bound-told j ws p cap r c t = record { most = λ u. most u (decLt r cap); within
 pub taken-is : (t s cap : ℕ) → (eqb t 0 && leb (2 * s) cap) && not (eqb (bitAnd cap (cap - 1)) 0) ≡ takenOver t s cap
 unfolding takenOver
 taken-is t s cap = refl
+
+-- ---- the position before another
+pub before-first : (t m : ℕ) → t ≡ 0 → m ≡ before t m
+unfolding before
+before-first t m e = rw e refl
+
+pub before-next : (t m r : ℕ) → (t ≡ 0 → ⊥) → r ≡ min (t - 1) m → r ≡ before t m
+unfolding before
+before-next zero m r d e = absurd (d refl)
+before-next (suc t) m r d e = let k : suc t - 1 ≡ t = omega arith in rw k at e
+
+pub before-some : (t m : ℕ) → before t m < m → 1 ≤ t
+unfolding before
+before-some zero m l = absurd (omega arith)
+before-some (suc t) m l = omega arith

@@ -1,11 +1,11 @@
 -- The parts of the workspace: what a store in one part leaves of the others.
 -- Assumes nothing.
-use Prim.Native.Nat.{ℕ, zero, suc, _+_, _-_, _*_, _≤_, _<_}
+use Prim.Native.Nat.{ℕ, _+_, _-_, _*_, _≤_, _<_}
 use native.Mathlib.Omega.{arith}
 use mathlib.Core.Path.{_≡_, refl, sym, _∙_, ap, subst}
-use mathlib.Core.List.{List, [], _∷_}
+use mathlib.Core.List.{List}
 use lib.ListN.{length, take, drop, getD, set, length-drop}
-use lib.Seq.{length-take-le, getD-drop, getD-take, take-nil, take-set-le, drop-set-add}
+use lib.Seq.{length-take-le, getD-drop, getD-take, take-set-le, drop-set-add}
 use Rattle.tiling.specs.Run.{mark}
 use Rattle.tiling.specs.Tiling.{State, lay, AllCurrent}
 use Rattle.tiling.proofs.Run.{length-mark, mark-before, mark-inside, mark-after}
@@ -16,13 +16,6 @@ use Rattle.sweep.specs.Row.{Greatest}
 use Rattle.sweep.specs.declared.Job.{Job}
 
 -- ---- the sequences in the workspace
--- A part from p to n is the rest, from p on, of the part up to n.
-pub rest-of-front : (p n : ℕ) (xs : List ℕ) → take (n - p) (drop p xs) ≡ drop p (take n xs)
-rest-of-front zero n xs = let e : n - 0 ≡ n = omega arith in rw e refl
-rest-of-front (suc p) zero xs = let e : 0 - suc p ≡ 0 = omega arith in rw e refl
-rest-of-front (suc p) (suc n) [] = take-nil {A = ℕ} (suc n - suc p)
-rest-of-front (suc p) (suc n) (x ∷ xs) = let e : suc n - suc p ≡ n - p = omega arith in rw e (rest-of-front p n xs)
-
 same-state : (s u : State) → s .pattern ≡ u .pattern → s .text ≡ u .text → s ≡ u
 same-state s u a b = λ i. record { pattern = a i; text = b i }
 

@@ -1,6 +1,6 @@
 -- What searching a row promises, and the greatest of the bounds. No reader of the engines' contracts needs these: they tie the functions
 -- of the engines together.
-use Prim.Native.Nat.{ℕ, _-_, _*_, _≤_, _<_}
+use Prim.Native.Nat.{ℕ, zero, suc, _-_, _*_, _≤_, _<_, min}
 use mathlib.Core.Bool.{Bool, true, false, not, _&&_}
 use mathlib.Core.Path.{_≡_}
 use mathlib.Core.List.{List}
@@ -46,6 +46,11 @@ alikeBound j ws p q cap =
 -- A row before `from`, or past the pattern, tells nothing.
 unfoldable pub boundBy : Job → List ℕ → ℕ → ℕ → ℕ → ℕ → ℕ
 boundBy j ws p q from cap = elim (leb from q && ltb q (j .n)) [ true ↦ alikeBound j ws p q cap | false ↦ cap ]
+
+-- The position just before t in a text of m words; m where there is none.
+unfoldable pub before : ℕ → ℕ → ℕ
+before zero m = m
+before (suc t) m = min t m
 
 -- What is taken over from a row whose run began at position t: where that is 0, a length of at least twice s that is no power of 2.
 unfoldable pub takenOver : ℕ → ℕ → ℕ → Bool

@@ -8,7 +8,7 @@ ghost use lib.Dec.{ltb};
 ghost use lib.ListN.{length, drop, getD, set};
 ghost use Rattle.tiling.specs.Run.{run};
 ghost use Rattle.sweep.specs.Workspace.{Space, state, boundsFrom, bound, laid};
-ghost use Rattle.sweep.specs.Row.{better, Greatest, alikeBound, boundBy, takenOver};
+ghost use Rattle.sweep.specs.Row.{better, Greatest, alikeBound, boundBy, before, takenOver};
 ghost use Rattle.sweep.specs.First.{First};
 ghost use Rattle.sweep.specs.Blocks.{BlockSet, Refreshed, Covering, rowAfter};
 ghost use Rattle.sweep.specs.Settled.{settledWords, settledTiles, settledTotals, settledRows};
@@ -262,6 +262,16 @@ pub fn bound_by(
         return cap;
     }
     alike_bound(ws, job, p, q, cap)
+}
+
+// The position just before t in a text of m words; m where there is none.
+pub fn one_before(t: TextAt, m: usize) -> TextAt
+    ensures { λ r. ⌜ r .0 ≡ before (t .0) m ⌝ }
+{
+    if t.0 == 0 {
+        return TextAt(m);
+    }
+    TextAt(lesser(t.0 - 1, m))
 }
 
 // Whether a bound is taken over from the row after, without a search: where the run found there began at the text's beginning,

@@ -1,8 +1,9 @@
 -- The list of hashes as the code makes it, of words as they stand and of replaced words: the hashes before i stand in the buffer, and rolling
 -- the hash at i gives that at i + 1.
 -- Assumes nothing.
-use Prim.Native.Nat.{ℕ, zero, suc, _+_, _-_, _*_, _%_, _^_, _≤_, _<_}
-use native.Mathlib.Nat.{sub-zero, pos-of-ne-zero}
+use Prim.Native.Nat.{ℕ, zero, suc, _+_, _-_, _*_, _/_, _%_, _^_, _≤_, _<_}
+use native.Mathlib.Nat.{sub-zero, add-zero, pos-of-ne-zero, mul-div-le}
+use native.Mathlib.Decide.{decLt, ℕ-discrete}
 use native.Mathlib.Omega.{arith}
 use native.Mathlib.Numerals.{add-one}
 use mathlib.Core.Path.{_≡_, refl, sym, _∙_, ap}
@@ -10,13 +11,13 @@ use mathlib.Core.Bool.{not}
 use mathlib.Core.List.{List, [], _∷_, _++_, map}
 use lib.Dec.{eqb, ltb}
 use lib.ListN.{length, take, drop, getD, set, length-drop, length-map, length-set, length-take, take-append-drop}
-use lib.Seq.{take-suc, drop-cons, getD-drop, length-take-le, take-take, getD-take, take-set-le, drop-set-add}
+use lib.Seq.{take-suc, drop-cons, getD-drop, length-take-le, take-take, getD-take, take-set-le, getD-set-same, getD-set-other}
 use borrow.Author.Tests.{eqb-false, ltb-false}
 use Rattle.symbol.specs.Word.{replaced}
 use Rattle.symbol.specs.Sequence.{allSound, tooLong, Current}
 use Rattle.symbol.proofs.Sequence.{getD-replaced, take-replaced, drop-replaced}
 use Rattle.buffer.specs.Buffer.{onto, tabulate}
-use Rattle.buffer.proofs.Buffer.{length-tabulate, onto-more, getD-tabulate, tabulate-same}
+use Rattle.buffer.proofs.Buffer.{rest-of-front, length-tabulate, onto-more, onto-words, getD-tabulate, tabulate-same}
 use Rattle.window.specs.Hash.{wordsHash, hash}
 use Rattle.window.specs.HashList.{windows, hashAt, hashesBy, hashes, hashRefusal}
 use Rattle.symbol.proofs.Refusal.{clear}
@@ -117,52 +118,148 @@ module _ (B s : ℕ) (words b₀ b : List ℕ) (h i : ℕ) (inv : Filled B s (ma
   pub replaced-all : (b₁ : List ℕ) → length words ≤ i + s → b₁ ≡ set b i h → b₁ ≡ onto (hashes B s words) b₀
   replaced-all b₁ all e = rw (← hashes-are B s words) (filled-all B s (map replaced words) b₀ b h i inv b₁ (rw (length-map words replaced) all) e)
 
--- ---- the loop of hash_windows: the same, where words and buffer are the two parts of one workspace
-pub record Beside (B s total : ℕ) (ws₀ ws : List ℕ) (h i : ℕ) : Type 0 where
-  pub within : i + s ≤ total
+-- ---- the loop of hash_windows: words and hashes are the two parts of one workspace. Two hashes are rolled side by side, from the first
+-- window on and from the one at `half` on.
+-- The hash at k stands in its place.
+abbrev pub Stands : ℕ → ℕ → ℕ → List ℕ → List ℕ → ℕ → Type 0
+Stands B s total ws₀ ws k = getD ws (total + k) 0 ≡ atWindow B s (take total ws₀) k
+
+pub record Beside (B s total half : ℕ) (ws₀ ws : List ℕ) (near far i : ℕ) : Type 0 where
+  pub within : half + i + s ≤ total
   pub same : length ws ≡ length ws₀
   pub front : take total ws ≡ take total ws₀
-  pub filled : Filled B s (take total ws₀) (drop total ws₀) (drop total ws) h i
+  pub first : near ≡ atWindow B s (take total ws₀) i
+  pub second : far ≡ atWindow B s (take total ws₀) (half + i)
+  pub before : (k : ℕ) → k < i → Stands B s total ws₀ ws k
+  pub behind : (k : ℕ) → half ≤ k → k < half + i → Stands B s total ws₀ ws k
+  pub kept : (k : ℕ) → windows s total ≤ k → getD ws (total + k) 0 ≡ getD ws₀ (total + k) 0
 
 pub none-beside : (B s total : ℕ) (ws : List ℕ) → total < s → ws ≡ take total ws ++ onto (hashesBy (wordsHash B) s (take total ws)) (drop total ws)
 none-beside B s total ws h =
     sym (take-append-drop total ws) ∙ ap (λ b. take total ws ++ b) (none-fits (wordsHash B) s (take total ws) (drop total ws) (omega (arith, length-take total ws)))
 
-pub beside-none : (B s total : ℕ) (ws : List ℕ) (h : ℕ) → 1 ≤ s → s ≤ total → 2 * total ≤ length ws → h ≡ wordsHash B (take (s - 0) (drop 0 ws)) → Beside B s total ws ws h 0
-beside-none B s total ws h least fits room e =
-    let n : length (take total ws) ≡ total = length-take-le total ws (omega arith) in
+halves : (n half : ℕ) → half ≡ n / 2 → 2 * half ≤ n
+halves n half e = rw e (mul-div-le n 2)
+
+-- A window of the words, as the slice that the code hands on.
+slice-hash : (B s total at : ℕ) (ws : List ℕ) → at + s ≤ total → wordsHash B (take s (drop at ws)) ≡ atWindow B s (take total ws) at
+slice-hash B s total at ws fits =
+    ap (wordsHash B) (sym (take-take s (total - at) (drop at ws) (omega arith)) ∙ ap (take s) (rest-of-front at total ws))
+
+pub beside-none : (B s total half : ℕ) (ws : List ℕ) (near far : ℕ) → 1 ≤ s → s ≤ total → half ≡ (total + 1 - s) / 2 → near ≡ wordsHash B (take (s - 0) (drop 0 ws)) → far ≡ wordsHash B (take (half + s - half) (drop half ws)) → Beside B s total half ws ws near far 0
+beside-none B s total half ws near far least fits middle e d =
+    let most : 2 * half ≤ total + 1 - s = halves (total + 1 - s) half middle in
+    let width : half + s - half ≡ s = omega arith in
     record {
       within = omega arith;
       same = refl;
       front = refl;
-      filled = filled-none B s (take total ws) (drop total ws) h (omega arith) (omega (arith, length-drop total ws)) (rw (sub-zero s, take-take s total ws fits) (rw (sub-zero s) at e));
+      first = rw (sub-zero s) at e ∙ slice-hash B s total 0 ws (omega arith);
+      second = rw (add-zero half) (rw width at d ∙ slice-hash B s total half ws (omega arith));
+      before = λ k l. absurd (omega arith);
+      behind = λ k h l. absurd (omega arith);
+      kept = λ k l. refl;
     }
 
-module _ (B s total : ℕ) (ws₀ ws : List ℕ) (h i : ℕ) (inv : Beside B s total ws₀ ws h i) where
+-- A hash that stands in its place does so after a hash is stored, be it the same.
+module _ (B s total : ℕ) (ws₀ ws : List ℕ) (at v : ℕ) (right : v ≡ atWindow B s (take total ws₀) at) (room : total + at < length ws) where
+  stands-here : Stands B s total ws₀ (set ws (total + at) v) at
+  stands-here = getD-set-same ws (total + at) v 0 room ∙ right
+
+  stands-still : (k : ℕ) → Stands B s total ws₀ ws k → Stands B s total ws₀ (set ws (total + at) v) k
+  stands-still k e = go (ℕ-discrete k at)
+    where
+      go : Dec (k ≡ at) → Stands B s total ws₀ (set ws (total + at) v) k
+      go (yes d) = rw d stands-here
+      go (no d) = getD-set-other ws (total + at) (total + k) v 0 (λ c. d (omega (arith, c))) ∙ e
+
+module _ (B s total half : ℕ) (ws₀ ws : List ℕ) (near far i : ℕ) (inv : Beside B s total half ws₀ ws near far i) (least : 1 ≤ s) (room : 2 * total ≤ length ws₀) where
   -- A word before the hashes is the word that stood there.
   word-at : (k : ℕ) → k < total → getD ws k 0 ≡ getD (take total ws₀) k 0
   word-at k less = sym (getD-take total ws k 0 less) ∙ ap (λ xs. getD xs k 0) (inv .front)
 
-  stored-front : take total (set ws (total + i) h) ≡ take total ws₀
-  stored-front = take-set-le total ws (total + i) h (omega arith) ∙ inv .front
+  words-are : length (take total ws₀) ≡ total
+  words-are = length-take-le total ws₀ (omega arith)
 
-  pub beside-more : (p r : ℕ) → 1 ≤ s → p ≡ B ^ (s - 1) % 2 ^ 32 → 2 * total ≤ length ws₀ → i + s < total → Rolls B p h (getD ws i 0) (getD ws (i + s) 0) r → Beside B s total ws₀ (set ws (total + i) h) r (i + 1)
-  beside-more p r least q room less roll =
-      let n : length (take total ws₀) ≡ total = length-take-le total ws₀ (omega arith) in
+  -- The workspace with the first hash stored, and with both.
+  abbrev once : List ℕ
+  once = set ws (total + i) near
+
+  abbrev twice : List ℕ
+  twice = set once (total + (half + i)) far
+
+  pub once-room : total + (half + i) < length once
+  once-room = omega (arith, length-set ws (total + i) near, inv .same, inv .within)
+
+  both-front : take total twice ≡ take total ws₀
+  both-front =
+      take-set-le total once (total + (half + i)) far (omega arith)
+      ∙ (take-set-le total ws (total + i) near (omega arith) ∙ inv .front)
+
+  both-still : (k : ℕ) → Stands B s total ws₀ ws k → Stands B s total ws₀ twice k
+  both-still k e =
+      stands-still B s total ws₀ once (half + i) far (inv .second) once-room k
+      (stands-still B s total ws₀ ws i near (inv .first) (omega (arith, inv .same, inv .within)) k e)
+
+  both-before : (k : ℕ) → k < i + 1 → Stands B s total ws₀ twice k
+  both-before k l = go (ℕ-discrete k i)
+    where
+      go : Dec (k ≡ i) → Stands B s total ws₀ twice k
+      go (yes d) =
+          rw d
+          (stands-still B s total ws₀ once (half + i) far (inv .second) once-room i
+          (stands-here B s total ws₀ ws i near (inv .first) (omega (arith, inv .same, inv .within))))
+      go (no d) = both-still k (inv .before k (omega (arith, d)))
+
+  both-behind : (k : ℕ) → half ≤ k → k < half + (i + 1) → Stands B s total ws₀ twice k
+  both-behind k h l = go (ℕ-discrete k (half + i))
+    where
+      go : Dec (k ≡ half + i) → Stands B s total ws₀ twice k
+      go (yes d) = rw d (stands-here B s total ws₀ once (half + i) far (inv .second) once-room)
+      go (no d) = both-still k (inv .behind k h (omega (arith, d)))
+
+  both-kept : (k : ℕ) → windows s total ≤ k → getD twice (total + k) 0 ≡ getD ws₀ (total + k) 0
+  both-kept k l =
+      getD-set-other once (total + (half + i)) (total + k) far 0 (λ c. absurd (omega (arith, c, l, inv .within)))
+      ∙ (getD-set-other ws (total + i) (total + k) near 0 (λ c. absurd (omega (arith, c, l, inv .within))) ∙ inv .kept k l)
+
+  both-same : length twice ≡ length ws₀
+  both-same = length-set once (total + (half + i)) far ∙ (length-set ws (total + i) near ∙ inv .same)
+
+  pub beside-more : (p near' far' : ℕ) → p ≡ B ^ (s - 1) % 2 ^ 32 → half + i + s < total → Rolls B p near (getD ws i 0) (getD ws (i + s) 0) near' → Rolls B p far (getD ws (half + i) 0) (getD ws (half + i + s) 0) far' → Beside B s total half ws₀ twice near' far' (i + 1)
+  beside-more p near' far' q less rolls rolls' =
+      let on : half + (i + 1) ≡ half + i + 1 = omega arith in
       record {
         within = omega arith;
-        same = length-set ws (total + i) h ∙ inv .same;
-        front = stored-front;
-        filled = rw (drop-set-add total ws i h) (filled-more B s (take total ws₀) (drop total ws₀) (drop total ws) h i (inv .filled) p r least q (omega arith) (rw (word-at i (omega arith), word-at (i + s) less) at roll));
+        same = both-same;
+        front = both-front;
+        first = hash-next B s (take total ws₀) p near near' i least q (omega (arith, words-are)) (inv .first) (rw (word-at i (omega arith), word-at (i + s) (omega arith)) at rolls);
+        second = rw on (hash-next B s (take total ws₀) p far far' (half + i) least q (omega (arith, words-are)) (inv .second) (rw (word-at (half + i) (omega arith), word-at (half + i + s) less) at rolls'));
+        before = both-before;
+        behind = both-behind;
+        kept = both-kept;
       }
 
-  pub beside-all : (ws₁ : List ℕ) → 2 * total ≤ length ws₀ → total ≤ i + s → ws₁ ≡ set ws (total + i) h → ws₁ ≡ take total ws₀ ++ onto (hashesBy (wordsHash B) s (take total ws₀)) (drop total ws₀)
-  beside-all ws₁ room all e =
-      let n : length (take total ws₀) ≡ total = length-take-le total ws₀ (omega arith) in
-      let back : drop total ws₁ ≡ onto (hashesBy (wordsHash B) s (take total ws₀)) (drop total ws₀) =
-      filled-all B s (take total ws₀) (drop total ws₀) (drop total ws) h i (inv .filled) (drop total ws₁) (omega arith) (rw e (drop-set-add total ws i h)) in
-      let front : take total ws₁ ≡ take total ws₀ = rw e stored-front in
-      sym (take-append-drop total ws₁) ∙ rw (front, back) refl
+  pub beside-all : (ws₁ ws₂ : List ℕ) → half ≡ (total + 1 - s) / 2 → total ≤ half + i + s → ws₁ ≡ set ws (total + i) near → ws₂ ≡ set ws₁ (total + (half + i)) far → ws₂ ≡ take total ws₀ ++ onto (hashesBy (wordsHash B) s (take total ws₀)) (drop total ws₀)
+  beside-all ws₁ ws₂ middle all e d =
+      let made : ws₂ ≡ twice = d ∙ ap (λ xs. set xs (total + (half + i)) far) e in
+      let back : drop total twice ≡ onto (hashesBy (wordsHash B) s (take total ws₀)) (drop total ws₀) =
+      onto-words (hashesBy (wordsHash B) s (take total ws₀)) (drop total ws₀) (drop total twice)
+      (omega (arith, count, words-are, length-drop total ws₀))
+      (length-drop total twice ∙ (ap (λ n. n - total) both-same ∙ sym (length-drop total ws₀)))
+      (λ k l. getD-drop total twice k 0 ∙ (all-stand k (omega (arith, l, count, words-are)) ∙ sym (getD-hashes B s (take total ws₀) k (omega (arith, l, count, words-are)))))
+      (λ k l. getD-drop total twice k 0 ∙ (both-kept k (omega (arith, l, count, words-are)) ∙ sym (getD-drop total ws₀ k 0))) in
+      made ∙ (sym (take-append-drop total twice) ∙ rw (both-front, back) refl)
+    where
+      count : length (hashesBy (wordsHash B) s (take total ws₀)) ≡ windows s (length (take total ws₀))
+      count = length-hashes B s (take total ws₀)
+
+      all-stand : (k : ℕ) → k + s ≤ total → Stands B s total ws₀ twice k
+      all-stand k fits = go (decLt k (i + 1))
+        where
+          go : Dec (k < i + 1) → Stands B s total ws₀ twice k
+          go (yes l) = both-before k l
+          go (no l) = both-behind k (omega (arith, l, halves (total + 1 - s) half middle)) (omega (arith, l))
 
 -- ---- what an accepted call has
 pub record Accepted (words : List ℕ) (s room : ℕ) : Type 0 where

@@ -86,7 +86,8 @@ fn fill_hashes(words: &[u32], b: u32, s: usize, buffer: &mut [u32])
 }
 
 // Fills the part of the workspace after its first total words with the hash at each position of those where a window of s
-// words fits. The words are hashed as they stand: in a workspace they are replaced already.
+// words fits. The words are hashed as they stand: in a workspace they are replaced already. Each hash waits for the one before it,
+// so two are rolled side by side, from the first window and from the middle one.
 pub fn hash_windows(ws: &mut [u32], total: usize, b: u32, s: usize)
     requires { ⌜ (1 ≤ s) × (total ≤ 4096) × (2 * total ≤ length (now ws)) ⌝ }
     ensures { λ r. ⌜ now (ws .exit) ≡ take total (now (ws .entry)) ++ onto (hashesBy (wordsHash b) s (take total (now (ws .entry)))) (drop total (now (ws .entry))) ⌝ }
@@ -95,15 +96,21 @@ pub fn hash_windows(ws: &mut [u32], total: usize, b: u32, s: usize)
         return;
     }
     let weight = power(b, s - 1);
-    let mut h = hash_of(b, &ws[0..s]);
+    let half = (total + 1 - s) / 2;
+    let mut near = hash_of(b, &ws[0..s]);
+    let mut far = hash_of(b, &ws[half..half + s]);
     let mut i = 0;
-    while i + s < total {
-        let next = roll(h, ws[i], weight, b, ws[i + s]);
-        ws[total + i] = h;
-        h = next;
+    while half + i + s < total {
+        let next_near = roll(near, ws[i], weight, b, ws[i + s]);
+        let next_far = roll(far, ws[half + i], weight, b, ws[half + i + s]);
+        ws[total + i] = near;
+        ws[total + (half + i)] = far;
+        near = next_near;
+        far = next_far;
         i += 1;
     }
-    buffer::put(ws, total + i, h);
+    buffer::put(ws, total + i, near);
+    buffer::put(ws, total + (half + i), far);
 }
 
 // At how many positions of n words a window of s words fits.

@@ -36,6 +36,12 @@ loop-less c = search needs
 loop-again : tie.Need-loop-again Inv-loop μ-loop
 loop-again c = search climbing-more
 
+lesser-requires : tie.Need-lesser-requires Inv-loop μ-loop
+lesser-requires c κs = search needs
+
+larger-requires : tie.Need-larger-requires Inv-loop μ-loop
+larger-requires c κs = search needs
+
 returns-3 : tie.Need-returns-3 Inv-loop μ-loop
 returns-3 c = search climbing-done
 
@@ -53,4 +59,6 @@ climb-spec =
     add-i
     loop-less
     loop-again
+    lesser-requires
+    larger-requires
     returns-3)

@@ -11,8 +11,8 @@ returns c = search remembered-not
 pattern-hash-requires : tie.Need-pattern-hash-requires
 pattern-hash-requires c κs = search needs
 
-bucket-of-requires : tie.Need-bucket-of-requires
-bucket-of-requires c κs = search needs
+place-of-requires : tie.Need-place-of-requires
+place-of-requires c κs = search needs
 
 cast-last : tie.Need-cast-last
 cast-last c = search needs
@@ -32,7 +32,7 @@ remember-spec =
     (tie.spec
     returns
     pattern-hash-requires
-    bucket-of-requires
+    place-of-requires
     cast-last
     mul-last
     element-write-last

@@ -8,8 +8,8 @@ use Rattle.rows.proofs.told.Tie as tie
 pattern-hash-requires : tie.Need-pattern-hash-requires
 pattern-hash-requires c κs = search needs
 
-bucket-of-requires : tie.Need-bucket-of-requires
-bucket-of-requires c κs = search needs
+place-of-requires : tie.Need-place-of-requires
+place-of-requires c κs = search needs
 
 last-row-requires : tie.Need-last-row-requires
 last-row-requires c κs = search needs
@@ -34,7 +34,7 @@ told-spec =
     tie.close
     (tie.spec
     pattern-hash-requires
-    bucket-of-requires
+    place-of-requires
     last-row-requires
     returns
     pattern-hash-requires-2
