@@ -271,7 +271,8 @@ sigxume_counted sigxume_hash_list(
  * Compares two sequences by the fast engine, Running Karp-Rabin greedy string tiling. The tiles, each of at least minimum words,
  * go to the start of tiles in the order laid, so from the longest to the shortest; the other words of tiles keep their values. The
  * workspace may hold anything, and all its workspace_len words are zero afterwards. The multiplier may be any number; start is
- * the first search length.
+ * the first search length: with windows about so long the search begins where those of the minimum length are too much alike. Of
+ * multiplier, buckets and start only the time depends.
  *
  * Refused, in this order: TOO_LONG (1), UNSOUND (2), MINIMUM (3), BUCKETS (4), SEARCH_LENGTH (5), WORKSPACE (6),
  * TILE_BUFFER (7). Workspace and tiles are then as they were.

@@ -9,7 +9,8 @@ pub struct Settings {
     pub multiplier: u32,
     /// From 1 to [`MAX_BUCKETS`](crate::MAX_BUCKETS).
     pub buckets: u32,
-    /// The first search length, from the minimum to 2,048.
+    /// The first search length, from the minimum to 2,048: with windows about so long the search
+    /// begins where those of the minimum length are too much alike.
     pub start: u32,
 }
 
