@@ -52,7 +52,7 @@
  * - An answer is a struct whose first number is the refusal's, 0 for none. After a refusal every other number is 0 and everything
  *   lent is as it was. A refusal is given when its cause holds and none that is checked earlier, and at no other time.
  * - Nothing is allocated, no state is kept and errno is not touched, so any thread may call at any time, with buffers of its own.
- * - Every call ends. The fast engine, and so a cover, takes about 21 KB of stack, everything else under 1 KB: a thread with 32 KiB
+ * - Every call ends. The fast engine, and so a cover, takes about 17 KB of stack, everything else under 1 KB: a thread with 32 KiB
  *   can make any call.
  */
 #ifndef SIGXUME_H

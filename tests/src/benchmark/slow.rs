@@ -293,7 +293,7 @@ pub fn families() -> Vec<Family> {
 type Found = (&'static str, u32, [u32; 3], [&'static str; 2]);
 
 #[rustfmt::skip]
-const FOUND: [Found; 2] = [
+const FOUND: [Found; 3] = [
     ("found by search, 1", 70, [1 << 31, 1_021, 70], [
         "2x3 4x38 1x8 4x163 2 4x1835",
         "4x47 5 4x520 1 4x288 1 4x288 1 4x288 1 4x288 1 4x323",
@@ -301,6 +301,10 @@ const FOUND: [Found; 2] = [
     ("found by search, 2", 110, [257, 1_024, 110], [
         "1x2048",
         "1x279 - 1x110 2x2 1x10 - 1x215 - 1x128 - 1x128 - 1x161 - 1x11 5 1x143 - 1x127 - 1x127 - 1x127 - 1x205 - 1x202 - 1x60",
+    ]),
+    ("found by search, 3", 1, [257, 1_021, 2_048], [
+        "1x113 2 1x300 2 1x718 3 1x15 2 1x55 2 1x198 3 1x643",
+        "1x40 2 1x41 2 1x42 2 1x7 - 1x36 2 1x54 2 1x48 2 1x47 2 1x183 2 1x213 3 1x15 2 1x55 2 1x29 2 1x105 3 1x54 2 1x19 2 1x23 4 1x117 2 1x160 2 1x166 4 1x574",
     ]),
 ];
 
