@@ -14,7 +14,7 @@ use lib.ListN.{length, take, drop}
 use Rattle.sweep.specs.Workspace.{Space, state}
 use Rattle.sweep.specs.declared.Job.{Job}
 use Rattle.sweep.proofs.Workspace.{pattern-length}
-use Rattle.lengths.specs.Lengths.{different, climbed, firstLength, longest, left, partOf}
+use Rattle.lengths.specs.Lengths.{different, climbed, triedFirst, firstLength, longest, left, partOf}
 use Rattle.lengths.proofs.Samples.{different-fits}
 
 -- A length that a pass may have, and a smaller one that is at least the minimum.
@@ -110,25 +110,25 @@ module _ (j : Job) (ws : List ℕ) (b given : ℕ) (s : Space j ws) where
         let k : leb 44 (different (state j ws .pattern) b (j .minimum)) ≡ true = rw (← counted) (le-leb 44 few h) in
         rw (firstLength, pattern-length j ws s, lt-leb (j .n) 256 long, k) refl
 
-    pub first-climbed : few < 44 → (low from r : ℕ) → low ≡ min given 64 → from ≡ max (j .minimum) low → r ≡ climbed (take (j .n - 0) (drop 0 ws)) b (j .minimum) from few 3 → r ≡ firstLength (state j ws .pattern) b (j .minimum) given
+    pub first-climbed : few < 44 → (up low from r : ℕ) → up ≡ max given 20 → low ≡ min up 64 → from ≡ max (j .minimum) low → r ≡ climbed (take (j .n - 0) (drop 0 ws)) b from from few 3 → r ≡ firstLength (state j ws .pattern) b (j .minimum) given
     unfolding firstLength
-    first-climbed h low from r el ef w =
+    first-climbed h up low from r eu el ef w =
         let k : leb 44 (different (state j ws .pattern) b (j .minimum)) ≡ false = rw (← counted) (lt-leb 44 few h) in
-        w ∙ rw (firstLength, pattern-length j ws s, lt-leb (j .n) 256 long, k, words, ← counted, ef, el) refl
+        w ∙ rw (firstLength, pattern-length j ws s, lt-leb (j .n) 256 long, k, words, ← counted, ef, el, eu) refl
 
 -- It is at least the minimum, and no longer than a sequence may be.
 between-least : (minimum : ℕ) → minimum ≤ 2048 → Between minimum minimum
 between-least minimum h = record { least = omega arith; most = h }
 
-climbed-between : (ws : List ℕ) (b minimum : ℕ) → length ws ≤ 2048 → minimum ≤ 2048 → (n s few : ℕ) → minimum ≤ s → Between minimum (climbed ws b minimum s few n)
+climbed-between : (ws : List ℕ) (b first : ℕ) → length ws ≤ 2048 → first ≤ 2048 → (n s few : ℕ) → first ≤ s → Between first (climbed ws b first s few n)
 unfolding climbed
-climbed-between ws b minimum l h zero s few g = record { least = omega arith; most = omega arith }
-climbed-between ws b minimum l h (suc n) s few g =
-    go (leb 44 (different ws b s)) refl (leb (different ws b s) few) (climbed-between ws b minimum l h n (s * 2) (different ws b s) (omega arith))
+climbed-between ws b first l h zero s few g = record { least = omega arith; most = omega arith }
+climbed-between ws b first l h (suc n) s few g =
+    go (leb 44 (different ws b s)) refl (leb (different ws b s) few) (climbed-between ws b first l h n (s * 2) (different ws b s) (omega arith))
   where
-    go : (c : Bool) → leb 44 (different ws b s) ≡ c → (d : Bool) → Between minimum (climbed ws b minimum (s * 2) (different ws b s) n) → Between minimum (elim c [ true ↦ s | false ↦ elim d [ true ↦ minimum | false ↦ climbed ws b minimum (s * 2) (different ws b s) n ] ])
+    go : (c : Bool) → leb 44 (different ws b s) ≡ c → (d : Bool) → Between first (climbed ws b first (s * 2) (different ws b s) n) → Between first (elim c [ true ↦ s | false ↦ elim d [ true ↦ first | false ↦ climbed ws b first (s * 2) (different ws b s) n ] ])
     go true e d later = record { least = g; most = omega (arith, different-fits ws b s (omega (arith, leb-true 44 (different ws b s) e))) }
-    go false e true later = between-least minimum h
+    go false e true later = between-least first h
     go false e false later = later
 
 pub first-between : (pattern : List ℕ) (b minimum given s : ℕ) → length pattern ≤ 2048 → minimum ≤ given → given ≤ 2048 → s ≡ firstLength pattern b minimum given → Between minimum s
@@ -136,10 +136,12 @@ unfolding firstLength
 first-between pattern b minimum given s l h m e =
     rw e (go (leb (length pattern) 256) (leb 44 (different pattern b minimum)))
   where
-    go : (c d : Bool) → Between minimum (elim c [ true ↦ minimum | false ↦ elim d [ true ↦ minimum | false ↦ climbed pattern b minimum (max minimum (min given 64)) (different pattern b minimum) 3 ] ])
+    go : (c d : Bool) → Between minimum (elim c [ true ↦ minimum | false ↦ elim d [ true ↦ minimum | false ↦ climbed pattern b (triedFirst minimum given) (triedFirst minimum given) (different pattern b minimum) 3 ] ])
     go true d = between-least minimum (omega arith)
     go false true = between-least minimum (omega arith)
-    go false false = climbed-between pattern b minimum l (omega arith) 3 (max minimum (min given 64)) (different pattern b minimum) (omega arith)
+    go false false =
+        let c = climbed-between pattern b (triedFirst minimum given) l (omega arith) 3 (triedFirst minimum given) (different pattern b minimum) (omega arith) in
+        record { least = omega (arith, c .least); most = c .most }
 
 -- ---- what is left
 pub left-none : (pattern : List ℕ) (minimum s : ℕ) → s ≤ minimum → 0 ≡ left pattern minimum s

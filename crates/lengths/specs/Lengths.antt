@@ -36,20 +36,24 @@ marks marked n = countBelow (λ k. not (eqb (getD marked k 0) 0)) n
 unfoldable pub different : List ℕ → ℕ → ℕ → ℕ
 different ws b s = elim (ltb (length ws) s) [ true ↦ 0 | false ↦ countBelow (λ k. someTaken ws b s ((length ws - s) / 64 + 1) k 0) 1024 ]
 
--- A length from s on whose windows differ, tried so many times, doubled each time as long as more of them differ than did before. The minimum
--- where no more of them do; a quarter of the next length where there are no tries left.
+-- A length from s on whose windows differ, tried so many times, doubled each time as long as more of them differ than did before. The first
+-- length that was tried where no more of them do; a quarter of the next one where there are no tries left.
 unfoldable pub climbed : List ℕ → ℕ → ℕ → ℕ → ℕ → ℕ → ℕ
-climbed ws b minimum s few zero = max minimum (min (s / 4) 2048)
-climbed ws b minimum s few (suc n) =
+climbed ws b first s few zero = max first (min (s / 4) 2048)
+climbed ws b first s few (suc n) =
     elim (leb 44 (different ws b s))
-    [ true ↦ s | false ↦ elim (leb (different ws b s) few) [ true ↦ minimum | false ↦ climbed ws b minimum (s * 2) (different ws b s) n ] ]
+    [ true ↦ s | false ↦ elim (leb (different ws b s) few) [ true ↦ first | false ↦ climbed ws b first (s * 2) (different ws b s) n ] ]
 
--- The first search length: the minimum where the pattern is short or its windows of the minimum length differ; else one from the length given on, or from 64
--- where that is less.
+-- The first length that is tried: the one that was given, but at least 20, at most 64, and at least the minimum.
+abbrev pub triedFirst : ℕ → ℕ → ℕ
+triedFirst minimum given = max minimum (min (max given 20) 64)
+
+-- The first search length: the minimum where the pattern is short or its windows of the minimum length differ; else one from the first that
+-- is tried on.
 unfoldable pub firstLength : List ℕ → ℕ → ℕ → ℕ → ℕ
 firstLength pattern b minimum given =
     elim (leb (length pattern) 256)
-    [ true ↦ minimum | false ↦ elim (leb 44 (different pattern b minimum)) [ true ↦ minimum | false ↦ climbed pattern b minimum (max minimum (min given 64)) (different pattern b minimum) 3 ] ]
+    [ true ↦ minimum | false ↦ elim (leb 44 (different pattern b minimum)) [ true ↦ minimum | false ↦ climbed pattern b (triedFirst minimum given) (triedFirst minimum given) (different pattern b minimum) 3 ] ]
 
 -- How many calls a list begins with, and the longest stretch of calls.
 abbrev pub longer : Bool → ℕ → ℕ

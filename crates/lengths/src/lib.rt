@@ -74,10 +74,10 @@ fn differing(words: &[u32], b: u32, s: usize) -> usize
 }
 
 // A length whose windows differ, from s on: s, or twice, or four times that, as long as more of them differ than did before. Where
-// no more of them do it is the minimum: longer windows are alike as well. Where more do each time, but never enough, it is 2 s.
-fn climb(words: &[u32], b: u32, minimum: usize, s: usize, few: usize) -> usize
+// no more of them do it is s: longer windows are alike as well. Where more do each time, but never enough, it is 2 s.
+fn climb(words: &[u32], b: u32, s: usize, few: usize) -> usize
     requires { ⌜ (length (now words) ≤ 2048) × (1 ≤ s) × (s ≤ 2048) ⌝ }
-    ensures { λ r. ⌜ r ≡ climbed (now (words .entry)) b minimum s few 3 ⌝ }
+    ensures { λ r. ⌜ r ≡ climbed (now (words .entry)) b s s few 3 ⌝ }
 {
     let mut length = s;
     let mut before = few;
@@ -88,17 +88,17 @@ fn climb(words: &[u32], b: u32, minimum: usize, s: usize, few: usize) -> usize
             return length;
         }
         if now <= before {
-            return minimum;
+            return s;
         }
         before = now;
         length *= 2;
         i += 1;
     }
-    larger(minimum, sweep::lesser(length / 4, 2048))
+    larger(s, sweep::lesser(length / 4, 2048))
 }
 
 // The search length of the first pass: the minimum, so that one pass is all; but where the pattern is long and windows so short
-// are too much alike, a length from the one that the pass was given on, or from 64 where that is less.
+// are too much alike, a length from the one that the pass was given on, but from 20 to 64.
 pub fn first_length(ws: &[u32], pass: Pass) -> usize
     requires { ⌜ Space (pass .job) (now ws) × (1 ≤ pass .job .minimum) × (pass .job .minimum ≤ pass .s) × (pass .s ≤ 2048) ⌝ }
     ensures { λ r. ⌜ r ≡ firstLength (state (pass .job) (now (ws .entry)) .pattern) (pass .multiplier) (pass .job .minimum) (pass .s) ⌝ }
@@ -112,8 +112,8 @@ pub fn first_length(ws: &[u32], pass: Pass) -> usize
     if 44 <= few {
         return minimum;
     }
-    let from = larger(minimum, sweep::lesser(pass.s, 64));
-    climb(&ws[0..n], pass.multiplier, minimum, from, few)
+    let from = larger(minimum, sweep::lesser(larger(pass.s, 20), 64));
+    climb(&ws[0..n], pass.multiplier, from, few)
 }
 
 // One more than the stretch after a call, and 0 where the word is no call.

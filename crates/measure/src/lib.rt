@@ -6,7 +6,7 @@ ghost use Prim.Native.Nat.{_≤_, max};
 ghost use lib.Dec.{leb};
 ghost use lib.ListN.{length};
 ghost use Rattle.tiling.specs.Run.{equalRun};
-ghost use Rattle.measure.specs.Block.{block, wholeBlocks};
+ghost use Rattle.measure.specs.Block.{block, wholeBlocks, counted};
 ghost use Rattle.measure.specs.Before.{before};
 
 // How many words a block has.
@@ -52,23 +52,20 @@ fn run_from(pattern: &[u32], text: &[u32], known: usize) -> usize
     n
 }
 
-// The run where it is longer than best, else best. The words after the last whole block are looked at only where they decide.
+// The run, of which one longer than best is looked for. The words of its first block are looked at one by one only where they decide: else
+// a run that ends there counts as none.
 pub fn measured_run(pattern: &[u32], text: &[u32], best: usize) -> usize
-    ensures { λ r. ⌜ r ≡ max best (equalRun (now (pattern .entry)) (now (text .entry))) ⌝ }
+    ensures { λ r. ⌜ r ≡ counted best (equalRun (now (pattern .entry)) (now (text .entry))) ⌝ }
 {
     let whole = blocks_run(pattern, text);
-    if whole + (BLOCK - 1) <= best {
-        return best;
+    if (whole < BLOCK) & (BLOCK - 1 <= best) {
+        return 0;
     }
-    let n = run_from(pattern, text, whole);
-    if n < best {
-        return best;
-    }
-    n
+    run_from(pattern, text, whole)
 }
 
-// The same. Most candidates are dismissed by the words at offset best alone: where these do not match, the run is no longer than
-// best.
+// The run where it is longer than best, else best. Where the words at offset best do not match, it is no longer, and nothing more is
+// looked at.
 pub fn longer_run(pattern: &[u32], text: &[u32], best: usize) -> usize
     ensures { λ r. ⌜ r ≡ max best (equalRun (now (pattern .entry)) (now (text .entry))) ⌝ }
 {
@@ -81,7 +78,11 @@ pub fn longer_run(pattern: &[u32], text: &[u32], best: usize) -> usize
     if !symbol::equal_calls(pattern[best], text[best]) {
         return best;
     }
-    measured_run(pattern, text, best)
+    let n = measured_run(pattern, text, best);
+    if n < best {
+        return best;
+    }
+    n
 }
 
 // Whether a and b never stand side by side at the first positions of two parts, as many as a block has: a in the one, b in the other.

@@ -14,12 +14,12 @@ use Rattle.symbol.specs.Word.{equalCalls}
 use Rattle.symbol.proofs.Word.{and-left}
 use Rattle.tile.specs.declared.TextAt.{TextAt}
 use Rattle.sweep.specs.Workspace.{Space, state, bound}
-use Rattle.sweep.specs.Row.{Row, boundBy, before}
+use Rattle.sweep.specs.Row.{Row, boundBy, freeWords, before}
 use Rattle.sweep.specs.Progress.{Fits, Searched, UpperFrom, RowBound, Filled, Ready, Finished, Sweeping}
 use Rattle.sweep.specs.declared.Job.{Job}
 use Rattle.sweep.specs.declared.Found.{Found}
 use Rattle.sweep.specs.declared.Totals.{Totals}
-use Rattle.sweep.proofs.Told.{bound-tells, bound-told, before-some}
+use Rattle.sweep.proofs.Told.{bound-tells, bound-told, free-tells, telling-both, before-some}
 use Rattle.sweep.proofs.Row.{row-small}
 use Rattle.sweep.proofs.Turn.{unmoved-fits, unmoved-finished}
 use Rattle.sweep.proofs.Workspace.{pattern-length}
@@ -62,9 +62,9 @@ module _ (j : Job) (ws : List ℕ) (p cap : ℕ) (space : Space j ws) (inside : 
   pub level-caps : Capped (state j ws) p cap
   level-caps u = omega (arith, upper p u (omega arith) inside, full)
 
-  pub found-told : (q r : ℕ) (a : TextAt) → r ≡ boundBy j ws p q 0 cap → r < cap → Searched j ws cap p (record { t = a; len = r })
-  found-told q r a e h =
-      let t = bound-tells j ws p q cap space 0 r upper e in
+  pub found-told : 1 ≤ j .minimum → j .minimum ≤ cap → (free q r : ℕ) (a : TextAt) → free ≡ freeWords j ws p cap → r ≡ boundBy j ws p q 0 free → r < cap → Searched j ws cap p (record { t = a; len = r })
+  found-told least long free q r a k e h =
+      let t = telling-both j ws p cap free r (free-tells j ws p cap free space inside (omega arith) k) (bound-tells j ws p q free space 0 r upper e) in
       record {
         small = omega (arith, t .inside h, space .short-pattern);
         within = omega arith;

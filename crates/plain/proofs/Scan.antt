@@ -1,5 +1,5 @@
--- Searching a row. What was found so far is the longest of the runs before t, or the floor. A longer run at u has the pattern's first word
--- and the word at that offset, so the positions that lack either can be passed over; and where too few words are left, no run is longer.
+-- Searching a row. What was found so far is the longest of the runs before t, or the floor. A longer run at u has the pattern's word at that
+-- offset and at any before, so the positions that lack either of two can be passed over; and where too few words are left, no run is longer.
 -- Assumes nothing.
 use Prim.Native.Nat.{ℕ, _+_, _-_, _≤_, _<_, max}
 use native.Mathlib.Nat.{not-suc-le-zero}
@@ -17,6 +17,8 @@ use Rattle.tiling.proofs.Run.{run-within, run-match}
 use Rattle.tiling.proofs.Replaced.{run-current}
 use Rattle.tile.specs.declared.TextAt.{TextAt}
 use Rattle.buffer.proofs.Buffer.{tail-is}
+use Rattle.measure.specs.Block.{counted}
+use Rattle.measure.proofs.Longer.{counted-longer}
 use Rattle.sweep.specs.Row.{Row, better}
 use Rattle.sweep.specs.First.{First}
 use Rattle.sweep.specs.declared.Found.{Found}
@@ -52,14 +54,10 @@ seen-none ps ts floor a h p t c d =
       first = λ l. absurd (omega arith);
     }
 
-module _ (ps ts : List ℕ) (floor t : ℕ) (f : Found) (r len : ℕ) (a : TextAt) (s : Seen ps ts floor t f) (h : f .len < length ps) (k : t + f .len < length ts) (c : First (SideBySide ts (f .len) (getD ps 0 0) (getD ps (f .len) 0)) t (length ts - f .len) r) (at : a .0 ≡ r) (e : len ≡ max (f .len) (equalRun ps (take (length ts - r) (drop r ts)))) where
+module _ (ps ts : List ℕ) (floor t : ℕ) (f : Found) (near r len : ℕ) (a : TextAt) (s : Seen ps ts floor t f) (order : near ≤ f .len) (h : f .len < length ps) (k : t + f .len < length ts) (c : First (SideBySide ts near (f .len) (getD ps near 0) (getD ps (f .len) 0)) t (length ts - f .len) r) (at : a .0 ≡ r) (e : len ≡ counted (f .len) (equalRun ps (take (length ts - r) (drop r ts)))) where
   -- A run longer than what was found has both words.
-  both : (u : ℕ) → f .len < run ps (drop u ts) → SideBySide ts (f .len) (getD ps 0 0) (getD ps (f .len) 0) u
-  both u l =
-      record {
-        here = let first : u + 0 ≡ u = omega arith in rw first at (word 0 (omega arith));
-        beyond = word (f .len) l;
-      }
+  both : (u : ℕ) → f .len < run ps (drop u ts) → SideBySide ts near (f .len) (getD ps near 0) (getD ps (f .len) 0) u
+  both u l = record { here = word near (omega arith); beyond = word (f .len) l }
     where
       word : (i : ℕ) → i < run ps (drop u ts) → getD ts (u + i) 0 ≡ getD ps i 0
       word i m =
@@ -75,8 +73,10 @@ module _ (ps ts : List ℕ) (floor t : ℕ) (f : Found) (r len : ℕ) (a : TextA
       go (no m) (yes d) = d
       go (no m) (no d) = absurd (c .none u (omega (arith, m)) l (both u (omega (arith, d))))
 
-  here : len ≡ max (f .len) (run ps (drop r ts))
-  here = rw (tail-is r ts, run-current ps (drop r ts) (s .parts .current-pattern) (current-drop r ts (s .parts .current-text))) at e
+  here : max (f .len) len ≡ max (f .len) (run ps (drop r ts))
+  here =
+      let same : len ≡ counted (f .len) (run ps (drop r ts)) = rw (tail-is r ts, run-current ps (drop r ts) (s .parts .current-pattern) (current-drop r ts (s .parts .current-text))) at e in
+      rw same (counted-longer (f .len) (run ps (drop r ts)))
 
   reached : (n : ℕ) → f .len ≤ n → run ps (drop r ts) ≤ n → (u : ℕ) → u < r + 1 → run ps (drop u ts) ≤ n
   reached n l m u b = go (ℕ-discrete u r)

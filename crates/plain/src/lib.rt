@@ -20,23 +20,24 @@ ghost use Rattle.plain.specs.Promise.{Plain};
 ghost use Rattle.plain.specs.Bounds.{Capped, goesOn};
 ghost use Rattle.plain.specs.Pair.{SideBySide};
 
-// The first position of the text from `from` on that has a, with b offset words further on; else the end of those that have a
-// word so far on. With few codes it is often `from` itself.
-fn next_pair(text: &[u32], from: TextAt, offset: usize, a: u32, b: u32) -> TextAt
-    requires { ⌜ from .0 + offset < length (now text) ⌝ }
-    ensures { λ r. ⌜ First (SideBySide (now (text .entry)) offset a b) (from .0) (length (now (text .entry)) - offset) (r .0) ⌝ }
+// The first position of the text from `from` on with a so many words further on and b further still; else the end of those that have
+// a word so far on. With few codes it is often `from` itself.
+fn next_pair(text: &[u32], from: TextAt, near: usize, far: usize, a: u32, b: u32) -> TextAt
+    requires { ⌜ (near ≤ far) × (from .0 + far < length (now text)) ⌝ }
+    ensures { λ r. ⌜ First (SideBySide (now (text .entry)) near far a b) (from .0) (length (now (text .entry)) - far) (r .0) ⌝ }
 {
     let at = from.0;
-    let beyond = at + offset;
-    if (text[at] == a) & (text[beyond] == b) {
+    let first = at + near;
+    let second = at + far;
+    if (text[first] == a) & (text[second] == b) {
         return from;
     }
-    TextAt(at + measure::positions_before(&text[at..], &text[beyond..], a, b))
+    TextAt(at + measure::positions_before(&text[first..], &text[second..], a, b))
 }
 
 // The longest run of the row that pattern starts, where it is longer than floor, and the first position on the text that
-// has it. A run longer than what was found has the pattern's first word and the word at that offset, so only the positions
-// where both stand are looked at.
+// has it. A run longer than what was found has the pattern's word at that offset, and the one where the last run that was measured
+// ended, so only the positions where both stand are looked at.
 fn row_search(pattern: &[u32], text: &[u32], floor: usize) -> Found
     requires { ⌜ (floor ≤ 2048) × (length (now pattern) ≤ 2048) × (length (now text) ≤ 2048) × Current (now pattern) × Current (now text) ⌝ }
     ensures { λ r. ⌜ Row (now (pattern .entry)) (now (text .entry)) floor r ⌝ }
@@ -45,11 +46,13 @@ fn row_search(pattern: &[u32], text: &[u32], floor: usize) -> Found
         t: TextAt(0),
         len: floor,
     };
+    let mut ended = 0;
     let mut t = 0;
     while found.len < pattern.len() && t + found.len < text.len() {
-        let offset = found.len;
-        let at = next_pair(text, TextAt(t), offset, pattern[0], pattern[offset]).0;
-        let len = measure::measured_run(pattern, &text[at..], offset);
+        let far = found.len;
+        let at = next_pair(text, TextAt(t), ended, far, pattern[ended], pattern[far]).0;
+        let len = measure::measured_run(pattern, &text[at..], far);
+        ended = sweep::lesser(len, far);
         found = sweep::keep(found, TextAt(at), len);
         t = at + 1;
     }
@@ -164,13 +167,14 @@ fn fill_bounds(ws: &mut [u32], job: Job, last: &mut usize)
     }
 }
 
-// The first run of cap words of row p, which has none that is longer; else a length below cap that no run of it exceeds, as the
-// row tells it that was searched last, or a search.
+// The first run of cap words of row p, which has none that is longer; else a length below cap that no run of it exceeds, as its free
+// words tell it, or the row that was searched last, or a search.
 fn find(ws: &[u32], job: Job, last: &mut usize, p: PatternAt, cap: usize) -> Found
     requires { ⌜ Space job (now ws) × (p .0 < job .n) × (1 ≤ job .minimum) × (job .minimum ≤ 256) × (job .minimum ≤ cap) × (cap ≡ bound job (now ws) (p .0)) × UpperFrom job (now ws) 0 ⌝ }
     ensures { λ r. ⌜ Searched job (now (ws .entry)) cap (p .0) r ⌝ }
 {
-    let known = sweep::bound_by(ws, job, p, PatternAt(*last), PatternAt(0), cap);
+    let free = sweep::free_words(ws, job, p, cap);
+    let known = sweep::bound_by(ws, job, p, PatternAt(*last), PatternAt(0), free);
     if known < cap {
         return Found {
             t: TextAt(0),

@@ -16,12 +16,12 @@ use Rattle.tiling.specs.Tiling.{State, runAt}
 use Rattle.tiling.proofs.Run.{run-within}
 use Rattle.tile.specs.declared.TextAt.{TextAt}
 use Rattle.sweep.specs.Workspace.{Space, state, boundsFrom}
-use Rattle.sweep.specs.Row.{boundBy, before}
+use Rattle.sweep.specs.Row.{boundBy, freeWords, before}
 use Rattle.sweep.specs.Progress.{UpperFrom, RowBound}
 use Rattle.sweep.specs.declared.Found.{Found}
 use Rattle.sweep.specs.declared.Job.{Job}
 use Rattle.sweep.proofs.Workspace.{pattern-length}
-use Rattle.sweep.proofs.Told.{Telling, telling-none, bound-tells, bound-told, before-some}
+use Rattle.sweep.proofs.Told.{Telling, telling-none, telling-both, free-tells, bound-tells, bound-told, before-some}
 use Rattle.sweep.proofs.Bounds.{Filling, filling-none, filling-more, filling-all}
 use Rattle.index.specs.Indexed.{Ranges, Indexed, Filtered, patternHash, textHash, slot, place}
 use Rattle.index.specs.Built.{when}
@@ -69,9 +69,9 @@ told-tells x ws last p from cap r space upper e =
 
 -- ---- a row that is looked at for a run of cap words
 module _ (x : Pass) (ws : List ℕ) (p cap : ℕ) (space : Space (x .job) ws) (ranges : Ranges x) where
-  pub looked-told : (last : List ℕ) (r : ℕ) (a : TextAt) → UpperFrom (x .job) ws 0 → r ≡ toldBy x ws last p 0 cap → r < cap → Looked (state (x .job) ws) p cap (record { t = a; len = r })
-  looked-told last r a upper e h =
-      let t = told-tells x ws last p 0 cap r space upper e in
+  pub looked-told : (last : List ℕ) (free r : ℕ) (a : TextAt) → p < x .job .n → x .s ≤ cap → UpperFrom (x .job) ws 0 → free ≡ freeWords (x .job) ws p cap → r ≡ toldBy x ws last p 0 free → r < cap → Looked (state (x .job) ws) p cap (record { t = a; len = r })
+  looked-told last free r a row long upper k e h =
+      let t = telling-both (x .job) ws p cap free r (free-tells (x .job) ws p cap free space row (omega (arith, ranges .one)) k) (told-tells x ws last p 0 free r space upper e) in
       record { small = omega (arith, t .inside h, space .short-pattern); most = t .most; long = λ l. absurd (omega arith); first = λ l. absurd (omega arith) }
 
   pub looked-found : (f : Found) → x .s ≤ cap → Reached (drop p (state (x .job) ws .pattern)) (state (x .job) ws .text) (x .s - 1) cap f → Looked (state (x .job) ws) p cap f

@@ -1,7 +1,7 @@
 -- Walking the positions of a bucket. Where a run of s words or more begins, the walk does not step over it: the head of the bucket is not past
 -- it, and neither is the link of a position before it. So what was found is the longest of the runs before t, or the floor.
 -- Assumes nothing.
-use Prim.Native.Nat.{ℕ, _+_, _-_, _≤_, _<_}
+use Prim.Native.Nat.{ℕ, _+_, _-_, _≤_, _<_, min}
 use native.Mathlib.Decide.{decLt, decLe, ℕ-discrete}
 use native.Mathlib.Omega.{arith}
 use mathlib.Core.Path.{_≡_, refl, sym, subst}
@@ -11,7 +11,6 @@ use lib.ListN.{drop, getD, length-drop}
 use Rattle.window.specs.Hash.{bucket}
 use Rattle.tiling.specs.Tiling.{runAt}
 use Rattle.tiling.proofs.Run.{run-within}
-use Rattle.tiling.proofs.Best.{past-text}
 use Rattle.tile.specs.declared.TextAt.{TextAt}
 use Rattle.sweep.specs.Workspace.{Space, state}
 use Rattle.sweep.specs.Row.{better}
@@ -20,9 +19,15 @@ use Rattle.sweep.proofs.Row.{better-new, better-old}
 use Rattle.sweep.proofs.Workspace.{pattern-length, text-length}
 use Rattle.index.specs.Indexed.{Indexed, patternHash, link}
 use Rattle.index.specs.declared.Pass.{Pass}
-use Rattle.rows.specs.Reached.{Alike, Reached}
+use Rattle.rows.specs.Reached.{Reached, lookedAt}
+use Rattle.rows.proofs.Pairs.{looked-kept, looked-inside}
 
-pub record Walked (x : Pass) (ws heads : List ℕ) (p t : ℕ) (f : Found) : Type 0 where
+-- The words at offset `ended` may be looked at first.
+pub record Walked (x : Pass) (ws heads : List ℕ) (p t ended : ℕ) (f : Found) : Type 0 where
+  pub space : Space (x .job) ws
+  pub row : p < x .job .n
+  pub order : ended ≤ f .len
+  pub inside : p + ended ≤ x .job .n
   pub index : Indexed x ws heads
   pub least : x .s - 1 ≤ f .len
   pub within : p + (f .len + 1 - x .s) ≤ x .job .n
@@ -35,9 +40,13 @@ module _ (x : Pass) (ws heads : List ℕ) (p : ℕ) where
   abbrev floor : ℕ
   floor = x .s - 1
 
-  pub walk-none : (own b t : ℕ) (a : TextAt) → Indexed x ws heads → p < x .job .n → own ≡ patternHash (x .job) ws p → b ≡ bucket (x .buckets) own → b < 1024 → t ≡ getD heads b 0 → Walked x ws heads p t (record { t = a; len = floor })
-  walk-none own b t a index w e f small h =
+  pub walk-none : (own b t : ℕ) (a : TextAt) → Space (x .job) ws → Indexed x ws heads → p < x .job .n → own ≡ patternHash (x .job) ws p → b ≡ bucket (x .buckets) own → b < 1024 → t ≡ getD heads b 0 → Walked x ws heads p t 0 (record { t = a; len = floor })
+  walk-none own b t a space index w e f small h =
       record {
+        space = space;
+        row = w;
+        order = omega arith;
+        inside = omega arith;
         index = index;
         least = omega arith;
         within = omega (arith, index .least);
@@ -54,7 +63,7 @@ module _ (x : Pass) (ws heads : List ℕ) (p : ℕ) where
       go u l (yes m) = let g : getD heads b 0 ≤ u = rw own-bucket (index .head p u m) in absurd (omega (arith, h))
       go u l (no m) = omega (arith, m, index .least)
 
-  module _ (a : TextAt) (f : Found) (i : Walked x ws heads p (a .0) f) (inside : a .0 < x .job .m) (space : Space (x .job) ws) (t' : ℕ) (on : t' ≡ link (x .job) ws (a .0)) where
+  module _ (a : TextAt) (f : Found) (ended : ℕ) (i : Walked x ws heads p (a .0) ended f) (inside : a .0 < x .job .m) (t' : ℕ) (on : t' ≡ link (x .job) ws (a .0)) where
     abbrev t : ℕ
     t = a .0
 
@@ -78,15 +87,19 @@ module _ (x : Pass) (ws heads : List ℕ) (p : ℕ) where
     here l = rw on (i .index .next-linked (bucket (x .buckets) (patternHash (x .job) ws p)) t inside (i .here inside) (rw on at l))
 
     fits : runAt (state (x .job) ws) p t ≤ x .job .n - p
-    fits = omega (arith, run-within (drop p (state (x .job) ws .pattern)) (drop t (state (x .job) ws .text)), length-drop p (state (x .job) ws .pattern), pattern-length (x .job) ws space)
+    fits = omega (arith, run-within (drop p (state (x .job) ws .pattern)) (drop t (state (x .job) ws .text)), length-drop p (state (x .job) ws .pattern), pattern-length (x .job) ws (i .space))
 
-    walk-better : p < x .job .n → Walked x ws heads p t' (better f a (runAt (state (x .job) ws) p t))
-    walk-better row = go (decLt (f .len) (runAt (state (x .job) ws) p t))
+    walk-better : (d : ℕ) → d ≤ f .len → p + d ≤ x .job .n → Walked x ws heads p t' d (better f a (runAt (state (x .job) ws) p t))
+    walk-better d order offset = go (decLt (f .len) (runAt (state (x .job) ws) p t))
       where
-        go : Dec (f .len < runAt (state (x .job) ws) p t) → Walked x ws heads p t' (better f a (runAt (state (x .job) ws) p t))
+        go : Dec (f .len < runAt (state (x .job) ws) p t) → Walked x ws heads p t' d (better f a (runAt (state (x .job) ws) p t))
         go (yes l) =
-            subst (λ g. Walked x ws heads p t' g) (better-new f a (runAt (state (x .job) ws) p t) l)
+            subst (λ g. Walked x ws heads p t' d g) (better-new f a (runAt (state (x .job) ws) p t) l)
             (record {
+              space = i .space;
+              row = i .row;
+              order = omega arith;
+              inside = offset;
               index = i .index;
               least = omega (arith, i .least);
               within = omega (arith, fits, i .index .least);
@@ -96,8 +109,12 @@ module _ (x : Pass) (ws heads : List ℕ) (p : ℕ) where
               here = here;
             })
         go (no l) =
-            subst (λ g. Walked x ws heads p t' g) (better-old f a (runAt (state (x .job) ws) p t) (omega (arith, l)))
+            subst (λ g. Walked x ws heads p t' d g) (better-old f a (runAt (state (x .job) ws) p t) (omega (arith, l)))
             (record {
+              space = i .space;
+              row = i .row;
+              order = omega arith;
+              inside = offset;
               index = i .index;
               least = i .least;
               within = i .within;
@@ -107,27 +124,30 @@ module _ (x : Pass) (ws heads : List ℕ) (p : ℕ) where
               here = here;
             })
 
-    pub walk-more : p < x .job .n → (g : Found) → g ≡ better f a (runAt (state (x .job) ws) p t) → Walked x ws heads p t' g
-    walk-more row g e = subst (λ y. Walked x ws heads p t' y) (sym e) (walk-better row)
+    pub walk-more : (len d : ℕ) (g : Found) → len ≡ lookedAt x ws p t (f .len) ended → d ≡ min len (f .len) → g ≡ better f a len → Walked x ws heads p t' d g
+    walk-more len d g e k h =
+        let kept = looked-kept x ws p ended len a f g (i .space) (i .index .kin) (omega (arith, i .least, i .index .least)) (i .order) e h in
+        let offset = looked-inside x ws p t (f .len) ended (i .space) len d (i .row) (i .inside) e k in
+        subst (λ y. Walked x ws heads p t' d y) (sym kept) (walk-better d (omega (arith, k)) offset)
 
   -- A walk rises, so it ends.
-  pub walk-rises : (t t' : ℕ) (f : Found) → Walked x ws heads p t f → t < x .job .m → t' ≡ link (x .job) ws t → x .job .m - t' < x .job .m - t
-  walk-rises t t' f i inside on = omega (arith, i .index .rising (bucket (x .buckets) (patternHash (x .job) ws p)) t inside (i .here inside), on)
+  pub walk-rises : (t t' ended : ℕ) (f : Found) → Walked x ws heads p t ended f → t < x .job .m → t' ≡ link (x .job) ws t → x .job .m - t' < x .job .m - t
+  walk-rises t t' ended f i inside on = omega (arith, i .index .rising (bucket (x .buckets) (patternHash (x .job) ws p)) t inside (i .here inside), on)
 
   -- What was found is at least one below the search length.
-  pub walk-low : (t : ℕ) (f : Found) → Walked x ws heads p t f → x .s ≤ f .len + 1
-  walk-low t f i = omega (arith, i .least, i .index .least)
+  pub walk-low : (t ended : ℕ) (f : Found) → Walked x ws heads p t ended f → x .s ≤ f .len + 1
+  walk-low t ended f i = omega (arith, i .least, i .index .least)
 
-  -- Past the text there are no runs.
-  pub walk-end : (cap t : ℕ) (f : Found) → Walked x ws heads p t f → Space (x .job) ws → x .job .m ≤ t → Reached (drop p (state (x .job) ws .pattern)) (state (x .job) ws .text) floor cap f
-  walk-end cap t f i space h = record { least = i .least; most = λ l u. go u (decLt u t); long = i .long; first = i .first }
+  -- What is left of the text has no longer run.
+  pub walk-end : (cap t ended : ℕ) (f : Found) → Walked x ws heads p t ended f → x .job .m - t ≤ f .len → Reached (drop p (state (x .job) ws .pattern)) (state (x .job) ws .text) floor cap f
+  walk-end cap t ended f i h = record { least = i .least; most = λ l u. go u (decLt u t); long = i .long; first = i .first }
     where
       go : (u : ℕ) → Dec (u < t) → runAt (state (x .job) ws) p u ≤ f .len
       go u (yes l) = i .passed u l
-      go u (no l) = omega (arith, past-text (state (x .job) ws) p u (omega (arith, text-length (x .job) ws space, l)))
+      go u (no l) = omega (arith, l, run-within (drop p (state (x .job) ws .pattern)) (drop u (state (x .job) ws .text)), length-drop u (state (x .job) ws .text), text-length (x .job) ws (i .space))
 
-  pub walk-cap : (cap t : ℕ) (f : Found) → Walked x ws heads p t f → cap ≤ f .len → Reached (drop p (state (x .job) ws .pattern)) (state (x .job) ws .text) floor cap f
-  walk-cap cap t f i h = record { least = i .least; most = λ l. absurd (omega arith); long = i .long; first = i .first }
+  pub walk-past : (cap t ended : ℕ) (f : Found) → Walked x ws heads p t ended f → x .job .m ≤ t → Reached (drop p (state (x .job) ws .pattern)) (state (x .job) ws .text) floor cap f
+  walk-past cap t ended f i h = walk-end cap t ended f i (omega arith)
 
-pub walk-alike : (x : Pass) (ws heads : List ℕ) → Indexed x ws heads → Alike x ws
-walk-alike x ws heads index = index .kin
+  pub walk-cap : (cap t ended : ℕ) (f : Found) → Walked x ws heads p t ended f → cap ≤ f .len → Reached (drop p (state (x .job) ws .pattern)) (state (x .job) ws .text) floor cap f
+  walk-cap cap t ended f i h = record { least = i .least; most = λ l. absurd (omega arith); long = i .long; first = i .first }

@@ -1,5 +1,5 @@
 -- What searching a row by the index promises. No reader of the engines' contracts needs it.
-use Prim.Native.Nat.{ℕ, _+_, _≤_, _<_}
+use Prim.Native.Nat.{ℕ, _+_, _-_, _≤_, _<_}
 use mathlib.Core.Path.{_≡_}
 use mathlib.Core.Bool.{Bool, true, false, _&&_}
 use mathlib.Core.List.{List}
@@ -8,6 +8,7 @@ use lib.ListN.{drop, getD}
 use Rattle.symbol.specs.Word.{equalCalls}
 use Rattle.tiling.specs.Run.{run}
 use Rattle.tiling.specs.Tiling.{State, runAt}
+use Rattle.measure.specs.Block.{counted}
 use Rattle.sweep.specs.Workspace.{state}
 use Rattle.sweep.specs.Row.{boundBy, before}
 use Rattle.sweep.specs.Progress.{Filled}
@@ -33,6 +34,15 @@ pub record Looked (s : State) (p cap : ℕ) (f : Found) : Type 0 where
   pub most : f .len < cap → (u : ℕ) → runAt s p u ≤ f .len
   pub long : cap ≤ f .len → runAt s p (f .t .0) ≡ f .len
   pub first : cap ≤ f .len → (u : ℕ) → u < f .t .0 → runAt s p u < f .len
+
+-- What looking at a pair of positions for a run longer than len tells: the run, where the windows of s words that begin there, and those that
+-- end just beyond len words, have the same hashes, and the words at offset `ended` are equal calls; else that offset.
+unfoldable pub lookedAt : Pass → List ℕ → ℕ → ℕ → ℕ → ℕ → ℕ
+lookedAt x ws p t len ended =
+    let j = x .job in
+    let d = len + 1 - x .s in
+    elim (eqb (textHash j ws t) (patternHash j ws p) && (eqb (textHash j ws (t + d)) (patternHash j ws (p + d)) && equalCalls (getD ws (p + ended) 0) (getD ws (j .n + t + ended) 0)))
+    [ true ↦ counted len (runAt (state j ws) p t) | false ↦ ended ]
 
 -- What row q, which was remembered, tells of row p: nothing where it is past the pattern or its window has another hash.
 unfoldable pub toldBy : Pass → List ℕ → List ℕ → ℕ → ℕ → ℕ → ℕ

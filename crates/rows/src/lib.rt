@@ -7,27 +7,27 @@ use tile::PatternAt;
 use tile::TextAt;
 ghost use mathlib.Core.Bool.{_&&_};
 ghost use mathlib.Core.Path.{_≡_};
-ghost use Prim.Native.Nat.{_+_, _-_, _≤_, _<_, max};
+ghost use Prim.Native.Nat.{_+_, _-_, _≤_, _<_};
 ghost use lib.Dec.{eqb, ltb};
 ghost use lib.ListN.{drop, getD, set};
 ghost use Rattle.tiling.specs.Tiling.{runAt};
+ghost use Rattle.measure.specs.Block.{counted};
 ghost use Rattle.sweep.specs.Workspace.{Space, state};
-ghost use Rattle.sweep.specs.Row.{better};
 ghost use Rattle.sweep.specs.Progress.{UpperFrom, RowBound};
 ghost use Rattle.index.specs.Indexed.{Ranges, Indexed, Filtered, patternHash, textHash, place};
 ghost use Rattle.index.specs.Built.{when};
-ghost use Rattle.rows.specs.Reached.{Alike, Reached, Looked, FilledRows, toldBy, goesOn};
+ghost use Rattle.rows.specs.Reached.{Reached, Looked, FilledRows, lookedAt, toldBy, goesOn};
 
-// The run at a pair of positions where it is longer than best, else best.
-fn longer_at(ws: &[u32], job: Job, p: PatternAt, t: TextAt, best: usize) -> usize
+// The run at a pair of positions, of which one longer than best is looked for.
+fn run_at(ws: &[u32], job: Job, p: PatternAt, t: TextAt, best: usize) -> usize
     requires { ⌜ Space job (now ws) × (p .0 ≤ job .n) × (t .0 ≤ job .m) ⌝ }
-    ensures { λ r. ⌜ r ≡ max best (runAt (state job (now (ws .entry))) (p .0) (t .0)) ⌝ }
+    ensures { λ r. ⌜ r ≡ counted best (runAt (state job (now (ws .entry))) (p .0) (t .0)) ⌝ }
 {
     let from = p.0;
     let n = job.n;
     let at = n + t.0;
     let end = n + job.m;
-    measure::longer_run(&ws[from..n], &ws[at..end], best)
+    measure::measured_run(&ws[from..n], &ws[at..end], best)
 }
 
 // Whether the windows at a pair of positions have the same hash.
@@ -47,20 +47,25 @@ fn ends_alike(ws: &[u32], pass: Pass, p: PatternAt, t: TextAt, len: usize) -> bo
     same_hash(ws, pass.job, PatternAt(p.0 + from), TextAt(t.0 + from))
 }
 
-// Looks at a pair of positions, for a run longer than what was found, only where the windows of s words that begin there have
-// the same hash. Such a run goes on beyond what was found, so the windows that end there have the same hash too.
-fn look(ws: &[u32], pass: Pass, p: PatternAt, t: TextAt, found: Found) -> Found
-    requires { ⌜ Space (pass .job) (now ws) × Alike pass (now ws) × Ranges pass × (t .0 < pass .job .m) × (pass .s ≤ found .len + 1) × (p .0 + (found .len + 1 - pass .s) ≤ pass .job .n) ⌝ }
-    ensures { λ r. ⌜ r ≡ better found t (runAt (state (pass .job) (now (ws .entry))) (p .0) (t .0)) ⌝ }
+// Looks at a pair of positions, for a run longer than len, only where the windows of s words that begin there have the same hash. Such a
+// run goes on beyond len words, so the windows that end there have the same hash too, and the words at every offset before match; the
+// one is asked first at which the last run that was measured ended. Where no such run can be, it is that offset.
+fn look(ws: &[u32], pass: Pass, p: PatternAt, t: TextAt, len: usize, ended: usize) -> usize
+    requires { ⌜ Space (pass .job) (now ws) × Ranges pass × (p .0 < pass .job .n) × (t .0 < pass .job .m) × (pass .s ≤ len + 1) × (p .0 + (len + 1 - pass .s) ≤ pass .job .n) × (p .0 + ended ≤ pass .job .n) ⌝ }
+    ensures { λ r. ⌜ r ≡ lookedAt pass (now (ws .entry)) (p .0) (t .0) len ended ⌝ }
 {
     if !same_hash(ws, pass.job, p, t) {
-        return found;
+        return ended;
     }
-    if !ends_alike(ws, pass, p, t, found.len) {
-        return found;
+    if !ends_alike(ws, pass, p, t, len) {
+        return ended;
     }
-    let len = longer_at(ws, pass.job, p, t, found.len);
-    sweep::keep(found, t, len)
+    let on_pattern = p.0 + ended;
+    let on_text = pass.job.n + t.0 + ended;
+    if !symbol::equal_calls(ws[on_pattern], ws[on_text]) {
+        return ended;
+    }
+    run_at(ws, pass.job, p, t, len)
 }
 
 // The longest run of the row at p, where it has at least s words, and the first position on the text that has it; or the first
@@ -73,10 +78,13 @@ fn row_search(ws: &[u32], pass: Pass, heads: &[u32; 1024], p: PatternAt, cap: us
         t: TextAt(0),
         len: pass.s - 1,
     };
+    let mut ended = 0;
     let own = index::pattern_hash(ws, pass.job, p);
     let mut t = index::first_text(heads, index::bucket_of(own, pass.buckets));
-    while t.0 < pass.job.m && found.len < cap {
-        found = look(ws, pass, p, t, found);
+    while t.0 < pass.job.m && found.len < pass.job.m - t.0 && found.len < cap {
+        let len = look(ws, pass, p, t, found.len, ended);
+        ended = sweep::lesser(len, found.len);
+        found = sweep::keep(found, t, len);
         t = index::next_text(ws, pass.job, t);
     }
     found
@@ -144,8 +152,8 @@ fn told(
     sweep::bound_by(ws, pass.job, p, q, from, cap)
 }
 
-// The first run of cap words of row p, which has none that is longer; else a length below cap that no run of it exceeds, as
-// another row tells it or a search.
+// The first run of cap words of row p, which has none that is longer; else a length below cap that no run of it exceeds, as its free
+// words tell it, or another row, or a search.
 pub fn find(
     ws: &[u32],
     pass: Pass,
@@ -157,7 +165,8 @@ pub fn find(
     requires { ⌜ Space (pass .job) (now ws) × Indexed pass (now ws) (now heads) × Ranges pass × (p .0 < pass .job .n) × (pass .s ≤ cap) × UpperFrom (pass .job) (now ws) 0 ⌝ }
     ensures { λ r. ⌜ Looked (state (pass .job) (now (ws .entry))) (p .0) cap r ⌝ }
 {
-    let known = told(ws, pass, last, p, PatternAt(0), cap);
+    let free = sweep::free_words(ws, pass.job, p, cap);
+    let known = told(ws, pass, last, p, PatternAt(0), free);
     if known < cap {
         return Found {
             t: TextAt(0),

@@ -4,24 +4,24 @@
 use Prim.Native.Nat.{ℕ, zero, suc, _+_, _-_, _*_, _≤_, _<_, min, max}
 use native.Mathlib.Decide.{decLt}
 use native.Mathlib.Omega.{arith}
-use mathlib.Core.Path.{_≡_, refl, sym, _∙_, subst}
+use mathlib.Core.Path.{_≡_, refl, sym, _∙_, ap, subst}
 use mathlib.Core.Bool.{Bool, true, false, not, _&&_}
 use mathlib.Core.List.{List, map}
 use borrow.Author.Tests.{leb-true, ltb-true, le-leb, lt-leb, lt-ltb, le-ltb}
 use lib.Bits.{bitAnd}
 use lib.Dec.{leb, ltb, eqb}
 use lib.ListN.{length, take, drop, getD, length-drop}
-use lib.Seq.{take-take, getD-take}
-use Rattle.symbol.specs.Word.{replaced}
-use Rattle.symbol.proofs.Retired.{match-both}
+use lib.Seq.{take-take, getD-take, getD-drop}
+use Rattle.symbol.specs.Word.{replaced, isCall}
+use Rattle.symbol.proofs.Retired.{match-both, match-call, match-self, no-match-left}
 use Rattle.symbol.proofs.Sequence.{current-take, current-drop}
 use Rattle.buffer.proofs.Buffer.{rest-of-front}
 use Rattle.tiling.specs.Run.{run, equalRun}
 use Rattle.tiling.specs.Tiling.{State, runAt}
-use Rattle.tiling.proofs.Run.{run-within, run-match, run-least}
+use Rattle.tiling.proofs.Run.{run-within, run-match, run-least, run-most}
 use Rattle.tiling.proofs.Replaced.{run-current}
 use Rattle.sweep.specs.Workspace.{Space, state, bound}
-use Rattle.sweep.specs.Row.{alikeBound, boundBy, before, takenOver}
+use Rattle.sweep.specs.Row.{alikeBound, boundBy, freeWords, before, takenOver}
 use Rattle.sweep.specs.Progress.{UpperFrom, RowBound}
 use Rattle.sweep.specs.declared.Job.{Job}
 use Rattle.sweep.proofs.Workspace.{pattern-length}
@@ -128,7 +128,7 @@ module _ (j : Job) (ws : List ℕ) (p q cap : ℕ) where
 pub record Telling (j : Job) (ws : List ℕ) (p cap r : ℕ) : Type 0 where
   pub within : r ≤ cap
   pub most : r < cap → (t : ℕ) → runAt (state j ws) p t ≤ r
-  pub inside : r < cap → p + r < j .n
+  pub inside : r < cap → p + r ≤ j .n
 
 pub telling-none : (j : Job) (ws : List ℕ) (p cap : ℕ) → Telling j ws p cap cap
 telling-none j ws p cap = record { within = omega arith; most = λ l. absurd (omega arith); inside = λ l. absurd (omega arith) }
@@ -154,6 +154,74 @@ module _ (j : Job) (ws : List ℕ) (p q cap : ℕ) (space : Space j ws) where
   pub bound-tells : (from r : ℕ) → UpperFrom j ws from → r ≡ boundBy j ws p q from cap → Telling j ws p cap r
   unfolding boundBy
   bound-tells from r upper e = subst (λ x. Telling j ws p cap x) (sym e) (by-tells from upper (leb from q) (ltb q (j .n)) refl refl)
+
+-- ---- the words that are free
+module _ (j : Job) (ws : List ℕ) (p cap len : ℕ) (s : Space j ws) (inside : p < j .n) (some : 1 ≤ cap) (e : len ≡ min cap (j .n - p)) where
+  abbrev own : List ℕ
+  own = drop p (state j ws .pattern)
+
+  -- The last of them, as the code reads it.
+  last-word : getD ws (p + (len - 1)) 0 ≡ getD own (min cap (j .n - p) - 1) 0
+  last-word =
+      rw (← e) (sym (getD-drop p (state j ws .pattern) (len - 1) 0 ∙ getD-take (j .n) ws (p + (len - 1)) 0 (omega (arith, e))))
+
+  module _ (b : Bool) (k : b ≡ isCall (getD ws (p + (len - 1)) 0)) where
+    asked : isCall (getD own (min cap (j .n - p) - 1) 0) ≡ b
+    asked = sym (k ∙ ap isCall last-word)
+
+    pub free-all : b ≡ true → len ≡ freeWords j ws p cap
+    unfolding freeWords
+    free-all z = rw (freeWords, asked, z) e
+
+    pub free-some : b ≡ false → (r : ℕ) → r ≡ max 0 (equalRun (take (j .n - p) (drop p ws)) (take (j .n - p) (drop p ws))) → r ≡ freeWords j ws p cap
+    unfolding freeWords
+    free-some z r w =
+        let c = current-drop p (state j ws .pattern) (s .current .on-pattern) in
+        let m : r ≡ max 0 (run own own) = rw (rest-of-front p (j .n) ws, run-current own own c c) at w in
+        rw (freeWords, asked, z) (omega (arith, m))
+
+-- No run of a row is longer than the row, or than the calls that it begins with.
+pub free-tells : (j : Job) (ws : List ℕ) (p cap r : ℕ) → Space j ws → p < j .n → 1 ≤ cap → r ≡ freeWords j ws p cap → Telling j ws p cap r
+unfolding freeWords
+free-tells j ws p cap r s inside some e = subst (λ x. Telling j ws p cap x) (sym e) (go (isCall (getD row (len - 1) 0)) refl)
+  where
+    row : List ℕ
+    row = drop p (state j ws .pattern)
+
+    len : ℕ
+    len = min cap (j .n - p)
+
+    row-words : length row ≡ j .n - p
+    row-words = row-length j ws s p
+
+    calls : (t : ℕ) → runAt (state j ws) p t ≤ run row row
+    calls t = let ts = drop t (state j ws .text) in run-least row row (run row ts) (λ i l. match-self (getD row i 0) (match-call (getD row i 0) (getD ts i 0) (run-match row ts i l)))
+
+    go : (b : Bool) → isCall (getD row (len - 1) 0) ≡ b → Telling j ws p cap (elim b [ true ↦ len | false ↦ run row row ])
+    go true k =
+        record {
+          within = omega arith;
+          most = λ l t. omega (arith, run-within row (drop t (state j ws .text)), row-words);
+          inside = λ l. omega arith;
+        }
+    go false k =
+        record {
+          within = omega (arith, run-most row row (len - 1) (no-match-left (getD row (len - 1) 0) (getD row (len - 1) 0) k));
+          most = λ l t. calls t;
+          inside = λ l. omega (arith, run-within row row, row-words);
+        }
+
+-- What is told of a row by its free words and then by another.
+pub telling-both : (j : Job) (ws : List ℕ) (p cap free r : ℕ) → Telling j ws p cap free → Telling j ws p free r → Telling j ws p cap r
+telling-both j ws p cap free r a b = record { within = omega (arith, a .within, b .within); most = λ l. most l (decLt r free); inside = λ l. inside l (decLt r free) }
+  where
+    most : r < cap → Dec (r < free) → (t : ℕ) → runAt (state j ws) p t ≤ r
+    most l (yes h) t = b .most h t
+    most l (no h) t = omega (arith, b .within, h, a .most (omega (arith, b .within, h)) t)
+
+    inside : r < cap → Dec (r < free) → p + r ≤ j .n
+    inside l (yes h) = b .inside h
+    inside l (no h) = omega (arith, b .within, h, a .inside (omega (arith, b .within, h)))
 
 -- A bound that is told, and one that is not.
 pub bound-told : (j : Job) (ws : List ℕ) (p cap r : ℕ) → RowBound j (state j ws) p cap → Telling j ws p cap r → RowBound j (state j ws) p r

@@ -6,7 +6,8 @@ use mathlib.Core.Path.{_≡_}
 use mathlib.Core.List.{List}
 use lib.Bits.{bitAnd}
 use lib.Dec.{leb, ltb, eqb}
-use lib.ListN.{drop}
+use lib.ListN.{drop, getD}
+use Rattle.symbol.specs.Word.{isCall}
 use Rattle.tile.specs.declared.TextAt.{TextAt}
 use Rattle.tiling.specs.Run.{run}
 use Rattle.sweep.specs.Workspace.{state, bound}
@@ -46,6 +47,14 @@ alikeBound j ws p q cap =
 -- A row before `from`, or past the pattern, tells nothing.
 unfoldable pub boundBy : Job → List ℕ → ℕ → ℕ → ℕ → ℕ → ℕ
 boundBy j ws p q from cap = elim (leb from q && ltb q (j .n)) [ true ↦ alikeBound j ws p q cap | false ↦ cap ]
+
+-- The words of row p, cap at the most, where the last of them is a call; else how many calls it begins with, which are those that match
+-- themselves.
+unfoldable pub freeWords : Job → List ℕ → ℕ → ℕ → ℕ
+freeWords j ws p cap =
+    let row = drop p (state j ws .pattern) in
+    let len = min cap (j .n - p) in
+    elim (isCall (getD row (len - 1) 0)) [ true ↦ len | false ↦ run row row ]
 
 -- The position just before t in a text of m words; m where there is none.
 unfoldable pub before : ℕ → ℕ → ℕ

@@ -8,7 +8,7 @@ ghost use lib.Dec.{ltb};
 ghost use lib.ListN.{length, drop, getD, set};
 ghost use Rattle.tiling.specs.Run.{run};
 ghost use Rattle.sweep.specs.Workspace.{Space, state, boundsFrom, bound, laid};
-ghost use Rattle.sweep.specs.Row.{better, Greatest, alikeBound, boundBy, before, takenOver};
+ghost use Rattle.sweep.specs.Row.{better, Greatest, alikeBound, boundBy, freeWords, before, takenOver};
 ghost use Rattle.sweep.specs.First.{First};
 ghost use Rattle.sweep.specs.Blocks.{BlockSet, Refreshed, Covering, rowAfter};
 ghost use Rattle.sweep.specs.Settled.{settledWords, settledTiles, settledTotals, settledRows};
@@ -262,6 +262,22 @@ pub fn bound_by(
         return cap;
     }
     alike_bound(ws, job, p, q, cap)
+}
+
+// How many words a run of the row at p may have, where none exceeds cap: as many as there are, or, where the last of them is no call, as
+// the calls that it begins with.
+pub fn free_words(ws: &[u32], job: Job, p: PatternAt, cap: usize) -> usize
+    requires { ⌜ Space job (now ws) × (p .0 < job .n) × (1 ≤ cap) ⌝ }
+    ensures { λ r. ⌜ r ≡ freeWords job (now (ws .entry)) (p .0) cap ⌝ }
+{
+    let from = p.0;
+    let n = job.n;
+    let len = lesser(cap, n - from);
+    let last = from + (len - 1);
+    if symbol::is_call(ws[last]) {
+        return len;
+    }
+    measure::longer_run(&ws[from..n], &ws[from..n], 0)
 }
 
 // The position just before t in a text of m words; m where there is none.

@@ -7,10 +7,10 @@ use Rattle.lengths.proofs.climb.Statement.{statement}
 use Rattle.lengths.proofs.climb.Tie as tie
 
 abbrev Inv-loop : tie.InvT-loop
-Inv-loop words b minimum s few length₀ before₀ i₀ length before i = Climbing words b minimum s few i length before
+Inv-loop words b s few length₀ before₀ i₀ length before i = Climbing words b s s few i length before
 
 abbrev μ-loop : tie.MeasureT-loop
-μ-loop words b minimum s few length₀ before₀ i₀ length before i = 3 - i
+μ-loop words b s few length₀ before₀ i₀ length before i = 3 - i
 
 loop-holds : tie.Need-loop-holds Inv-loop μ-loop
 loop-holds c = search climbing-none

@@ -23,11 +23,14 @@ differing-requires c κs = search needs
 returns-2 : tie.Need-returns-2
 returns-2 c = search first-many
 
+larger-requires : tie.Need-larger-requires
+larger-requires c κs = search needs
+
 lesser-requires : tie.Need-lesser-requires
 lesser-requires c κs = search needs
 
-larger-requires : tie.Need-larger-requires
-larger-requires c κs = search needs
+larger-requires-2 : tie.Need-larger-requires-2
+larger-requires-2 c κs = search needs
 
 sub-climb : tie.Need-sub-climb
 sub-climb c = search needs
@@ -54,8 +57,9 @@ first-length-spec =
     part-differing-end
     differing-requires
     returns-2
-    lesser-requires
     larger-requires
+    lesser-requires
+    larger-requires-2
     sub-climb
     part-climb-start
     part-climb-end

@@ -1,7 +1,7 @@
 -- `measure::longer_run` meets its contract: a run is no longer than either list, and no longer than best where the words at offset best do not
 -- match; in each of these cases best is the greater.
 -- Assumes nothing.
-use Rattle.measure.proofs.Longer.{longer-pattern, longer-text, longer-stop}
+use Rattle.measure.proofs.Longer.{longer-pattern, longer-text, longer-stop, longer-not, longer-run}
 use borrow.Author.Needs.{needs}
 use Rattle.measure.proofs.longer_run.Statement.{statement}
 use Rattle.measure.proofs.longer_run.Tie as tie
@@ -34,7 +34,10 @@ measured-run-requires : tie.Need-measured-run-requires
 measured-run-requires c κs = search needs
 
 returns-4 : tie.Need-returns-4
-returns-4 c = search needs
+returns-4 c = longer-not _ _ _ (c .before .measured-run .ensures) (search needs)
+
+returns-5 : tie.Need-returns-5
+returns-5 c = longer-run _ _ _ (c .before .measured-run .ensures) (search needs)
 
 pub longer-run-spec : {M : Type 1} → statement M
 longer-run-spec =
@@ -49,4 +52,5 @@ longer-run-spec =
     equal-calls-requires
     returns-3
     measured-run-requires
-    returns-4)
+    returns-4
+    returns-5)

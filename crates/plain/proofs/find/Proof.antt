@@ -1,9 +1,12 @@
--- `plain::find` meets its contract: what another row tells is asked first.
+-- `plain::find` meets its contract: what its own words and another row tell is asked first.
 -- Assumes nothing.
 use Rattle.plain.proofs.Fill.{level-caps, found-told, found-row}
 use borrow.Author.Needs.{needs}
 use Rattle.plain.proofs.find.Statement.{statement}
 use Rattle.plain.proofs.find.Tie as tie
+
+free-words-requires : tie.Need-free-words-requires
+free-words-requires c κs = search needs
 
 bound-by-requires : tie.Need-bound-by-requires
 bound-by-requires c κs = search needs
@@ -22,4 +25,4 @@ returns-2 c = search found-row
 
 pub find-spec : {M : Type 1} → statement M
 find-spec =
-    tie.close (tie.spec bound-by-requires returns sub-search-kept search-kept-requires returns-2)
+    tie.close (tie.spec free-words-requires bound-by-requires returns sub-search-kept search-kept-requires returns-2)

@@ -6,8 +6,11 @@ use borrow.Author.Needs.{needs}
 use Rattle.plain.proofs.next_pair.Statement.{statement}
 use Rattle.plain.proofs.next_pair.Tie as tie
 
-add-beyond : tie.Need-add-beyond
-add-beyond c = search needs
+add-first : tie.Need-add-first
+add-first c = search needs
+
+add-second : tie.Need-add-second
+add-second c = search needs
 
 mul-if1 : tie.Need-mul-if1
 mul-if1 c = search needs
@@ -51,21 +54,22 @@ part-positions-before-end-2 c = search needs
 positions-before-requires : tie.Need-positions-before-requires
 positions-before-requires c κs = search needs
 
-add-t26 : tie.Need-add-t26
-add-t26 c =
+add-t28 : tie.Need-add-t28
+add-t28 c =
     let s = c .before .before .before .before .before .before .before in
-    record { fits = omega (arith, next-within (s .args .text .now) (s .args .from .0) (s .args .offset) (s .args .a) (s .args .b) (c .positions-before .result) (s .pre) (c .positions-before .ensures)) }
+    record { fits = omega (arith, next-within (s .args .text .now) (s .args .from .0) (s .args .near) (s .args .far) (s .args .a) (s .args .b) (c .positions-before .result) (search needs) (search needs) (c .positions-before .ensures)) }
 
 returns-2 : tie.Need-returns-2
 returns-2 c =
     let s = c .before .before .before .before .before .before .before in
-    next-first (s .args .text .now) (s .args .from .0) (s .args .offset) (s .args .a) (s .args .b) (c .positions-before .result) (s .pre) (c .positions-before .ensures)
+    next-first (s .args .text .now) (s .args .from .0) (s .args .near) (s .args .far) (s .args .a) (s .args .b) (c .positions-before .result) (search needs) (search needs) (c .positions-before .ensures)
 
 pub next-pair-spec : {M : Type 1} → statement M
 next-pair-spec =
     tie.close
     (tie.spec
-    add-beyond
+    add-first
+    add-second
     mul-if1
     shared-slice-read-if1
     mul-if1-2
@@ -80,5 +84,5 @@ next-pair-spec =
     part-positions-before-start-2
     part-positions-before-end-2
     positions-before-requires
-    add-t26
+    add-t28
     returns-2)

@@ -1,7 +1,7 @@
--- `rows::look` meets its contract: where hashes differ no run is longer than what was found, and elsewhere the run is measured.
+-- `rows::look` meets its contract: the hashes and the words are tested in turn, and only then the run is measured.
 -- Assumes nothing.
-use borrow.Author.Tests.{not-true}
-use Rattle.rows.proofs.Pairs.{look-unlike, look-ended, look-kept}
+use borrow.Author.Tests.{not-true, not-false}
+use Rattle.rows.proofs.Pairs.{look-unlike, look-ended, look-stopped, look-run}
 use borrow.Author.Needs.{needs}
 use Rattle.rows.proofs.look.Statement.{statement}
 use Rattle.rows.proofs.look.Tie as tie
@@ -16,18 +16,41 @@ ends-alike-requires : tie.Need-ends-alike-requires
 ends-alike-requires c κs = search needs
 
 returns-2 : tie.Need-returns-2
-returns-2 c =
-    let a = c .before .before .before .before .before .args in
-    look-ended (a .pass) (a .ws .now) (a .p .0) (a .t .0) (a .found) (search needs) (search needs) (c .before .ends-alike .result) (c .before .ends-alike .ensures) (search not-true) (a .t)
+returns-2 c = search (look-ended, not-true, not-false)
 
-longer-at-requires : tie.Need-longer-at-requires
-longer-at-requires c κs = search needs
+add-on-pattern : tie.Need-add-on-pattern
+add-on-pattern c = search needs
 
-keep-requires : tie.Need-keep-requires
-keep-requires c κs = search needs
+add-on-text : tie.Need-add-on-text
+add-on-text c = search needs
+
+add-on-text-2 : tie.Need-add-on-text-2
+add-on-text-2 c = search needs
+
+mul-equal-calls : tie.Need-mul-equal-calls
+mul-equal-calls c = search needs
+
+shared-slice-read-equal-calls : tie.Need-shared-slice-read-equal-calls
+shared-slice-read-equal-calls c = search needs
+
+mul-equal-calls-2 : tie.Need-mul-equal-calls-2
+mul-equal-calls-2 c = search needs
+
+shared-slice-read-equal-calls-2 : tie.Need-shared-slice-read-equal-calls-2
+shared-slice-read-equal-calls-2 c = search needs
+
+equal-calls-requires : tie.Need-equal-calls-requires
+equal-calls-requires c κs = search needs
 
 returns-3 : tie.Need-returns-3
-returns-3 c = search look-kept
+returns-3 c =
+    look-stopped _ _ _ _ _ _ _ (c .before .before .before .before .before .before .before .before .before .before .same-hash .ensures) (search not-false) _ (c .before .before .before .before .before .before .before .before .ends-alike .ensures) (search not-false) _ (c .before .equal-calls .ensures) (search not-true)
+
+run-at-requires : tie.Need-run-at-requires
+run-at-requires c κs = search needs
+
+returns-4 : tie.Need-returns-4
+returns-4 c = search (look-run, not-false)
 
 pub look-spec : {M : Type 1} → statement M
 look-spec =
@@ -37,6 +60,14 @@ look-spec =
     returns
     ends-alike-requires
     returns-2
-    longer-at-requires
-    keep-requires
-    returns-3)
+    add-on-pattern
+    add-on-text
+    add-on-text-2
+    mul-equal-calls
+    shared-slice-read-equal-calls
+    mul-equal-calls-2
+    shared-slice-read-equal-calls-2
+    equal-calls-requires
+    returns-3
+    run-at-requires
+    returns-4)

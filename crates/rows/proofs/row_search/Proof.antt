@@ -1,6 +1,6 @@
 -- `rows::row_search` meets its contract: at the head of each turn what was found is the longest of the runs before t, or one word less than a window.
 -- Assumes nothing.
-use Rattle.rows.proofs.Walk.{Walked, walk-alike, walk-low, walk-none, walk-more, walk-rises, walk-end, walk-cap}
+use Rattle.rows.proofs.Walk.{Walked, walk-low, walk-none, walk-more, walk-rises, walk-end, walk-past, walk-cap}
 use Prim.Native.Nat.{_-_}
 use borrow.Author.Tests.{ltb-false}
 use borrow.Author.Needs.{needs}
@@ -8,10 +8,10 @@ use Rattle.rows.proofs.row_search.Statement.{statement}
 use Rattle.rows.proofs.row_search.Tie as tie
 
 abbrev Inv-loop : tie.InvT-loop
-Inv-loop ws pass heads p cap found₀ own t₀ found t = Walked pass ws heads (p .0) (t .0) found
+Inv-loop ws pass heads p cap found₀ ended₀ own t₀ found ended t = Walked pass ws heads (p .0) (t .0) ended found
 
 abbrev μ-loop : tie.MeasureT-loop
-μ-loop ws pass heads p cap found₀ own t₀ found t = pass .job .m - t .0
+μ-loop ws pass heads p cap found₀ ended₀ own t₀ found ended t = pass .job .m - t .0
 
 sub-first-text : tie.Need-sub-first-text Inv-loop μ-loop
 sub-first-text c = search needs
@@ -28,8 +28,17 @@ first-text-requires c κs = search needs
 loop-holds : tie.Need-loop-holds Inv-loop μ-loop
 loop-holds c = search walk-none
 
+sub-if2 : tie.Need-sub-if2 Inv-loop μ-loop
+sub-if2 c = search needs
+
 look-requires : tie.Need-look-requires Inv-loop μ-loop
-look-requires c κs = (search needs, search walk-alike, search needs, search needs, search walk-low, search needs)
+look-requires c κs = (search needs, search needs, search needs, search needs, search walk-low, search needs, search needs)
+
+lesser-requires : tie.Need-lesser-requires Inv-loop μ-loop
+lesser-requires c κs = search needs
+
+keep-requires : tie.Need-keep-requires Inv-loop μ-loop
+keep-requires c κs = search needs
 
 next-text-requires : tie.Need-next-text-requires Inv-loop μ-loop
 next-text-requires c κs = search needs
@@ -44,7 +53,10 @@ returns : tie.Need-returns Inv-loop μ-loop
 returns c = search (walk-cap, ltb-false)
 
 returns-2 : tie.Need-returns-2 Inv-loop μ-loop
-returns-2 c = search walk-end
+returns-2 c = search (walk-end, ltb-false)
+
+returns-3 : tie.Need-returns-3 Inv-loop μ-loop
+returns-3 c = search walk-past
 
 pub row-search-spec : {M : Type 1} → statement M
 row-search-spec =
@@ -57,9 +69,13 @@ row-search-spec =
     bucket-of-requires
     first-text-requires
     loop-holds
+    sub-if2
     look-requires
+    lesser-requires
+    keep-requires
     next-text-requires
     loop-less
     loop-again
     returns
-    returns-2)
+    returns-2
+    returns-3)
