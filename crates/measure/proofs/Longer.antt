@@ -62,6 +62,14 @@ module _ (best n : ℕ) where
       go true = omega arith
       go false = omega arith
 
+  pub counted-some : 0 < counted best n → counted best n ≡ n
+  unfolding counted
+  counted-some = go (ltb n block && leb block (best + 1))
+    where
+      go : (b : Bool) → 0 < elim b [ true ↦ 0 | false ↦ n ] → elim b [ true ↦ 0 | false ↦ n ] ≡ n
+      go true h = absurd (omega arith)
+      go false h = refl
+
   pub longer-not : (r : ℕ) → r ≡ counted best n → r < best → best ≡ max best n
   longer-not r e h = omega (arith, counted-longer)
 

@@ -276,7 +276,7 @@ pub fn families() -> Vec<Family> {
         Family::new(
             "last words alike",
             [(); 2].map(|()| alternating(random)),
-            USUAL,
+            &[(8, &[START]), (1, &[START])],
         ),
         Family::new("sums alike", [(); 2].map(|()| equal_sums(random)), USUAL),
         Family::new(
@@ -293,7 +293,7 @@ pub fn families() -> Vec<Family> {
 type Found = (&'static str, u32, [u32; 3], [&'static str; 2]);
 
 #[rustfmt::skip]
-const FOUND: [Found; 3] = [
+const FOUND: [Found; 7] = [
     ("found by search, 1", 70, [1 << 31, 1_021, 70], [
         "2x3 4x38 1x8 4x163 2 4x1835",
         "4x47 5 4x520 1 4x288 1 4x288 1 4x288 1 4x288 1 4x323",
@@ -305,6 +305,22 @@ const FOUND: [Found; 3] = [
     ("found by search, 3", 1, [257, 1_021, 2_048], [
         "1x113 2 1x300 2 1x718 3 1x15 2 1x55 2 1x198 3 1x643",
         "1x40 2 1x41 2 1x42 2 1x7 - 1x36 2 1x54 2 1x48 2 1x47 2 1x183 2 1x213 3 1x15 2 1x55 2 1x29 2 1x105 3 1x54 2 1x19 2 1x23 4 1x117 2 1x160 2 1x166 4 1x574",
+    ]),
+    ("found by search, 4", 1, [257, 1_021, 1], [
+        "1x571 2 1x33 2 1x28 2 1x23 2 1x5 2 1x217 2x2 4 1 2x2 4 1 2 1x48 2 1x509 5 1x56 2 1x71 2 1x469",
+        "1x20 2 1x21 2 1x22 2 (1x23 2 1x2)x3 1x24 2 1x27 2 1x28 2 1x29 2 1x30 2 1x31 2 1x32 2 1x33 2 1x20 2 1x7 2 1x23 2 (1x5 2 1x23)x4 1x11 2 1x19 2 1x37 2 1x38 2 1x32 5 1x6 2 1x40 2 1x28 5 1x12 2 1x63 5 1x76 5 1x1046",
+    ]),
+    ("found by search, 5", 3, [257, 1_021, 8], [
+        "1x501 2 1x630 2 1x255 2 1x601",
+        "1x40 2 1x41 2 1x97 4 1x191 3 1x69 3 1x334 2 1x55 2 1x54 2 1x53 2 1x52 2 1x33 2 1x17 2 1x50 2 1x49 2 1x48 2 1x47 2 1x46 2 1x45 2 1x44 2 1x43 2 1x583",
+    ]),
+    ("found by search, 6", 181, [0, 256, 2_048], [
+        "2x3 4x38 1x8 4x163 2 4x115 2 4x231 2 4x244 2 4x241 2 4x197 2 4x800",
+        "4x47 5 4x7 1 4x143 1 4x11 1 4x170 1 4x435 1 4x25 1 (4x22 1 4x25)x3 4x40 3 4x47 5 4x132 1 4x74 5 4x80 1 4x19 1x2 4x111 5 4x59 1 4x172 1x4 4x108 1 4x127",
+    ]),
+    ("found by search, 7", 123, [257, 1_021, 123], [
+        "1x109 3 1x3 2 1x346 2 1x718 3 1x270 3 1x597",
+        "(1x40 2 1x2)x3 1x5 - 1x36 2 1x54 2 1x48 2 1x47 2 1x183 2 1x213 3 1x15 2 1x55 2 1x29 2 1x105 3 1x54 2 1x19 2 1x23 4 1x117 2 1x160 2 1x173 4 1x566",
     ]),
 ];
 

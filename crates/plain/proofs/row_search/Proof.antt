@@ -1,19 +1,23 @@
 -- `plain::row_search` meets its contract: at the head of each turn what was found is the longest of the runs before t, or the floor.
 -- Assumes nothing.
 use Prim.Native.Nat.{_+_, _-_, _≤_}
+use native.Mathlib.Omega.{arith}
 use borrow.Author.Tests.{ltb-true, ltb-false}
 use lib.ListN.{length}
 use Rattle.sweep.proofs.Row.{better-least}
-use Rattle.plain.proofs.Scan.{Seen, seen-none, seen-more, seen-pattern, seen-text}
+use Rattle.plain.proofs.Scan.{Seen, seen-none, seen-more, passed-small, seen-pattern, seen-text}
 use borrow.Author.Needs.{needs}
 use Rattle.plain.proofs.row_search.Statement.{statement}
 use Rattle.plain.proofs.row_search.Tie as tie
 
 abbrev Inv-loop : tie.InvT-loop
-Inv-loop pattern text floor found₀ ended₀ t₀ found ended t = Seen pattern text floor t found × (ended ≤ found .len)
+Inv-loop pattern text floor found₀ again ended₀ t₀ found ended t = Seen pattern text floor t found × (ended ≤ found .len)
 
 abbrev μ-loop : tie.MeasureT-loop
-μ-loop pattern text floor found₀ ended₀ t₀ found ended t = length text + 1 - t
+μ-loop pattern text floor found₀ again ended₀ t₀ found ended t = length text + 1 - t
+
+repeats-requires : tie.Need-repeats-requires Inv-loop μ-loop
+repeats-requires c κs = search needs
 
 loop-holds : tie.Need-loop-holds Inv-loop μ-loop
 loop-holds c = (search seen-none, search needs)
@@ -60,6 +64,14 @@ keep-requires c κs = search needs
 add-t : tie.Need-add-t Inv-loop μ-loop
 add-t c = search needs
 
+passed-over-requires : tie.Need-passed-over-requires Inv-loop μ-loop
+passed-over-requires c κs = search needs
+
+add-t-2 : tie.Need-add-t-2 Inv-loop μ-loop
+add-t-2 c =
+    let small = passed-small _ _ _ _ _ _ (search needs) (c .before .before .before .measured-run .ensures) (c .passed-over .ensures) in
+    record { fits = omega (arith, small, c .before .before .before .before .before .next-pair .ensures .within) }
+
 loop-less : tie.Need-loop-less Inv-loop μ-loop
 loop-less c = search needs
 
@@ -78,6 +90,7 @@ row-search-spec =
     (tie.spec
     Inv-loop
     μ-loop
+    repeats-requires
     loop-holds
     add-if2
     mul-next-pair
@@ -93,6 +106,8 @@ row-search-spec =
     lesser-requires
     keep-requires
     add-t
+    passed-over-requires
+    add-t-2
     loop-less
     loop-again
     returns
