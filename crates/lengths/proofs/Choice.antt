@@ -1,15 +1,15 @@
 -- Which length is taken: by how many of some windows differ, and by what is left after a pass.
 -- Assumes nothing.
-use Prim.Native.Nat.{ℕ, zero, suc, _+_, _-_, _*_, _/_, _^_, _≤_, _<_, min, max}
+use Prim.Native.Nat.{ℕ, zero, suc, _+_, _-_, _*_, _/_, _%_, _^_, _≤_, _<_, min, max}
 use native.Mathlib.Nat.{pow-zero, pow-suc}
 use native.Mathlib.Numerals.{add-one}
 use native.Mathlib.Decide.{decLt}
 use native.Mathlib.Omega.{arith}
 use mathlib.Core.Path.{_≡_, refl, sym, _∙_, ap}
-use mathlib.Core.Bool.{Bool, true, false}
+use mathlib.Core.Bool.{Bool, true, false, _||_}
 use mathlib.Core.List.{List}
 use borrow.Author.Tests.{lt-ltb, le-ltb, le-leb, lt-leb, leb-true}
-use lib.Dec.{ltb, leb}
+use lib.Dec.{ltb, leb, eqb}
 use lib.ListN.{length, take, drop}
 use Rattle.sweep.specs.Workspace.{Space, state}
 use Rattle.sweep.specs.declared.Job.{Job}
@@ -96,11 +96,11 @@ module _ (j : Job) (ws : List ℕ) (b given : ℕ) (s : Space j ws) where
   words : take (j .n - 0) (drop 0 ws) ≡ state j ws .pattern
   words = let e : j .n - 0 ≡ j .n = omega arith in rw e refl
 
-  pub first-short : j .n ≤ 256 → j .minimum ≡ firstLength (state j ws .pattern) b (j .minimum) given
+  pub first-short : (leb (j .n) 256 || eqb (b % 2) 0) ≡ true → j .minimum ≡ firstLength (state j ws .pattern) b (j .minimum) given
   unfolding firstLength
-  first-short h = rw (firstLength, pattern-length j ws s, le-leb (j .n) 256 h) refl
+  first-short h = rw (firstLength, pattern-length j ws s, h) refl
 
-  module _ (long : 256 < j .n) (few : ℕ) (e : few ≡ different (take (j .n - 0) (drop 0 ws)) b (j .minimum)) where
+  module _ (long : (leb (j .n) 256 || eqb (b % 2) 0) ≡ false) (few : ℕ) (e : few ≡ different (take (j .n - 0) (drop 0 ws)) b (j .minimum)) where
     counted : few ≡ different (state j ws .pattern) b (j .minimum)
     counted = e ∙ rw words refl
 
@@ -108,13 +108,13 @@ module _ (j : Job) (ws : List ℕ) (b given : ℕ) (s : Space j ws) where
     unfolding firstLength
     first-many h =
         let k : leb 44 (different (state j ws .pattern) b (j .minimum)) ≡ true = rw (← counted) (le-leb 44 few h) in
-        rw (firstLength, pattern-length j ws s, lt-leb (j .n) 256 long, k) refl
+        rw (firstLength, pattern-length j ws s, long, k) refl
 
     pub first-climbed : few < 44 → (up low from r : ℕ) → up ≡ max given 20 → low ≡ min up 64 → from ≡ max (j .minimum) low → r ≡ climbed (take (j .n - 0) (drop 0 ws)) b from from few 3 → r ≡ firstLength (state j ws .pattern) b (j .minimum) given
     unfolding firstLength
     first-climbed h up low from r eu el ef w =
         let k : leb 44 (different (state j ws .pattern) b (j .minimum)) ≡ false = rw (← counted) (lt-leb 44 few h) in
-        w ∙ rw (firstLength, pattern-length j ws s, lt-leb (j .n) 256 long, k, words, ← counted, ef, el, eu) refl
+        w ∙ rw (firstLength, pattern-length j ws s, long, k, words, ← counted, ef, el, eu) refl
 
 -- It is at least the minimum, and no longer than a sequence may be.
 between-least : (minimum : ℕ) → minimum ≤ 2048 → Between minimum minimum
@@ -134,7 +134,7 @@ climbed-between ws b first l h (suc n) s few g =
 pub first-between : (pattern : List ℕ) (b minimum given s : ℕ) → length pattern ≤ 2048 → minimum ≤ given → given ≤ 2048 → s ≡ firstLength pattern b minimum given → Between minimum s
 unfolding firstLength
 first-between pattern b minimum given s l h m e =
-    rw e (go (leb (length pattern) 256) (leb 44 (different pattern b minimum)))
+    rw e (go (leb (length pattern) 256 || eqb (b % 2) 0) (leb 44 (different pattern b minimum)))
   where
     go : (c d : Bool) → Between minimum (elim c [ true ↦ minimum | false ↦ elim d [ true ↦ minimum | false ↦ climbed pattern b (triedFirst minimum given) (triedFirst minimum given) (different pattern b minimum) 3 ] ])
     go true d = between-least minimum (omega arith)

@@ -1,7 +1,7 @@
 -- Which search lengths the passes have. No reader of the engines' contracts needs these: any lengths would do.
-use Prim.Native.Nat.{ℕ, zero, suc, _+_, _-_, _*_, _/_, _<_, min, max}
+use Prim.Native.Nat.{ℕ, zero, suc, _+_, _-_, _*_, _/_, _%_, _<_, min, max}
 use mathlib.Core.Path.{_≡_}
-use mathlib.Core.Bool.{Bool, true, false, not}
+use mathlib.Core.Bool.{Bool, true, false, not, _||_}
 use mathlib.Core.List.{List, [], _∷_}
 use lib.Dec.{leb, ltb, eqb}
 use lib.ListN.{length, take, drop, getD}
@@ -48,11 +48,11 @@ climbed ws b first s few (suc n) =
 abbrev pub triedFirst : ℕ → ℕ → ℕ
 triedFirst minimum given = max minimum (min (max given 20) 64)
 
--- The first search length: the minimum where the pattern is short or its windows of the minimum length differ; else one from the first that
--- is tried on.
+-- The first search length: the minimum where the pattern is short, or the multiplier even, so that a hash tells only of the last words of
+-- a window, or where windows of the minimum length differ; else one from the first that is tried on.
 unfoldable pub firstLength : List ℕ → ℕ → ℕ → ℕ → ℕ
 firstLength pattern b minimum given =
-    elim (leb (length pattern) 256)
+    elim (leb (length pattern) 256 || eqb (b % 2) 0)
     [ true ↦ minimum | false ↦ elim (leb 44 (different pattern b minimum)) [ true ↦ minimum | false ↦ climbed pattern b (triedFirst minimum given) (triedFirst minimum given) (different pattern b minimum) 3 ] ]
 
 -- How many calls a list begins with, and the longest stretch of calls.

@@ -98,14 +98,15 @@ fn climb(words: &[u32], b: u32, s: usize, few: usize) -> usize
 }
 
 // The search length of the first pass: the minimum, so that one pass is all; but where the pattern is long and windows so short
-// are too much alike, a length from the one that the pass was given on, but from 20 to 64.
+// are too much alike, a length from the one that the pass was given on, but from 20 to 64. With an even multiplier longer windows are
+// as much alike: their hashes tell only of their last words.
 pub fn first_length(ws: &[u32], pass: Pass) -> usize
     requires { ⌜ Space (pass .job) (now ws) × (1 ≤ pass .job .minimum) × (pass .job .minimum ≤ pass .s) × (pass .s ≤ 2048) ⌝ }
     ensures { λ r. ⌜ r ≡ firstLength (state (pass .job) (now (ws .entry)) .pattern) (pass .multiplier) (pass .job .minimum) (pass .s) ⌝ }
 {
     let n = pass.job.n;
     let minimum = pass.job.minimum;
-    if n <= 256 {
+    if (n <= 256) | (pass.multiplier % 2 == 0) {
         return minimum;
     }
     let few = differing(&ws[0..n], pass.multiplier, minimum);
