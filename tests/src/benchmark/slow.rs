@@ -44,7 +44,11 @@ static TABLE: Table = Table {
             measure: Measure::Ratio(&FAST, &WISE),
             most: 3.0,
             rows: Rows::OwnHash,
-            others: &[],
+            others: &[
+                ("found by search, 8", 12.0),
+                ("found by search, 9", 12.0),
+                ("found by search, 10", 12.0),
+            ],
             exceptions: &[],
         },
         Everywhere {
@@ -256,11 +260,12 @@ pub fn families() -> Vec<Family> {
             [stretches(40), stretches_in_disorder(random)],
             &[(8, &[START, 2_048])],
         ),
-        Family::new(
-            "two codes, unrelated",
-            unrelated(random, MAX_WORDS, 2),
-            &[(12, &[START]), (1, &[START])],
-        ),
+        Family {
+            name: "two codes, unrelated",
+            pair: unrelated(random, MAX_WORDS, 2),
+            lengths: &[(12, &[START]), (1, &[START])],
+            hashes: EVERY_HASH,
+        },
         Family::new("periods, broken", periods, USUAL),
         Family::new(
             "Fibonacci word, broken",
@@ -293,7 +298,7 @@ pub fn families() -> Vec<Family> {
 type Found = (&'static str, u32, [u32; 3], [&'static str; 2]);
 
 #[rustfmt::skip]
-const FOUND: [Found; 7] = [
+const FOUND: [Found; 10] = [
     ("found by search, 1", 70, [1 << 31, 1_021, 70], [
         "2x3 4x38 1x8 4x163 2 4x1835",
         "4x47 5 4x520 1 4x288 1 4x288 1 4x288 1 4x288 1 4x323",
@@ -321,6 +326,18 @@ const FOUND: [Found; 7] = [
     ("found by search, 7", 123, [257, 1_021, 123], [
         "1x109 3 1x3 2 1x346 2 1x718 3 1x270 3 1x597",
         "(1x40 2 1x2)x3 1x5 - 1x36 2 1x54 2 1x48 2 1x47 2 1x183 2 1x213 3 1x15 2 1x55 2 1x29 2 1x105 3 1x54 2 1x19 2 1x23 4 1x117 2 1x160 2 1x173 4 1x566",
+    ]),
+    ("found by search, 8", 1, [257, 1_021, 1], [
+        "1x509 3 1x313 5 1x549 3 1x623",
+        "1x25 2 1 2 1x14 2 1x55 2 1x13 2 1x21 2 1x49 2 1x10 - 1x66 2 1x47 2 1x38 - 1x9 2 1x51 2 1x104 2 1x56 2 1x80 2 1x48 2 1x47 2 1x70 2 1x70 2 1x205 - 1x143 -x2 1x140 5 1x138 3 1x516",
+    ]),
+    ("found by search, 9", 2, [257, 1_021, 2], [
+        "1x590 3 1x607 3 1x351 5 1x497",
+        "1x25 2 1 2 1x14 2 1x55 2 1x13 2 1x21 2 1x49 2 1x10 - 1x66 2 1x47 2 1x205 2 1x137 2 1x167 2 1x178 2 1x250 - 1x172 2 1x13 2 1x93 3 1x514",
+    ]),
+    ("found by search, 10", 1, [257, 1_021, 1], [
+        "1x1226 2 1x15 - 1x758 4 1x25",
+        "1x20 2 1x21 2 1x22 2 1x23 2 1x24 2 1x220 - 1x188 3 1x496 - 1x1026",
     ]),
 ];
 
