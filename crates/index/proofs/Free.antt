@@ -45,9 +45,6 @@ free-within j ws t =
 pub free-end : (j : Job) (ws : List ℕ) → 0 ≡ freeAt j ws (j .m)
 free-end j ws = omega (arith, free-within j ws (j .m))
 
-pub free-inside : (j : Job) (ws : List ℕ) (u : ℕ) → 1 ≤ freeAt j ws u → u < j .m
-free-inside j ws u h = omega (arith, h, free-within j ws u)
-
 -- What is free is so by the sequences alone.
 pub free-same : (j : Job) (ws ws' : List ℕ) (u : ℕ) → state j ws' ≡ state j ws → freeAt j ws' u ≡ freeAt j ws u
 free-same j ws ws' u e = ap (λ (x : State). run (drop u (x .text)) (drop u (x .text))) e
