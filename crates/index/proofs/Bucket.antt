@@ -20,9 +20,6 @@ pub bucket-below : (k h : ℕ) → 1 ≤ k → k ≤ 1024 → bucket k h < 1024
 unfolding bucket
 bucket-below k h a b = bucket-small k h a b
 
-pub bucket-fits : (k h : ℕ) → 1 ≤ k → k ≤ 1024 → h % k < 2 ^ 64
-bucket-fits k h a b = omega (arith, mod-lt h a)
-
 pub slot-is : (h : ℕ) → h * 2654435769 % 2 ^ 32 / 2 ^ 20 ≡ slot h
 unfolding slot
 slot-is h = refl

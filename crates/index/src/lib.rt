@@ -16,15 +16,15 @@ pub struct Pass {
     pub job: Job,
     pub s: usize,
     pub multiplier: u32,
-    pub buckets: u32,
+    pub buckets: usize,
 }
 
 // The bucket of a hash.
-pub fn bucket_of(h: u32, buckets: u32) -> usize
+pub fn bucket_of(h: u32, buckets: usize) -> usize
     requires { ⌜ (1 ≤ buckets) × (buckets ≤ 1024) ⌝ }
     ensures { λ r. ⌜ (r ≡ bucket buckets h) × (r < 1024) ⌝ }
 {
-    (h % buckets) as usize
+    (h as usize) % buckets
 }
 
 // The entry of the filter that a hash has.

@@ -60,7 +60,7 @@ pub fn compare_accepted(
         job,
         s: settings.start as usize,
         multiplier: settings.multiplier,
-        buckets: settings.buckets,
+        buckets: settings.buckets as usize,
     };
     let sum = passes::tile_all(workspace, pass, tiles, none);
     ends::close(workspace, job, sum)

@@ -12,6 +12,9 @@ open-requires c κs = search fast-room
 cast-t11 : tie.Need-cast-t11
 cast-t11 c = search needs
 
+cast-t14 : tie.Need-cast-t14
+cast-t14 c = search needs
+
 tile-all-requires : tie.Need-tile-all-requires
 tile-all-requires c κs = (search fast-fits, search fast-ranges)
 
@@ -26,8 +29,11 @@ same-length-2 c = search needs
 
 returns : tie.Need-returns
 returns c =
-    let entry = c .before .before .before .before .before .before .before .before .before .before .before .before .before .before .before .before .before .before .before .before in
-    search (fast-answers, entry .pre .0, entry .pre .1 .1)
+    let entry = c .before .before .before .before .before .before .before .before .before .before .before .before .before .before .before .before .before .before .before .before .before in
+    let opened = c .before .before .before .before .before .before .before .before .before .before .before .before .before .before .before .open .ensures in
+    let laid = c .before .before .before .before .before .before .before .before .tile-all .ensures in
+    let closed = c .before .before .close .ensures in
+    fast-answers _ _ _ _ _ (entry .pre .0) (entry .pre .1 .1) _ _ opened _ _ _ laid (search (needs, c .before .before .before .before .before .before .before .before .before .before .before .before .before .before .workspace)) (search needs) _ _ closed
 
 pub compare-accepted-spec : {M : Type 1} → statement M
 compare-accepted-spec =
@@ -35,6 +41,7 @@ compare-accepted-spec =
     (tie.spec
     open-requires
     cast-t11
+    cast-t14
     tile-all-requires
     close-requires
     same-length
