@@ -1,69 +1,37 @@
 -- Searching a row. What was found so far is the longest of the runs before t, or the floor. A longer run at u has the pattern's word at that
 -- offset and at any before, so the positions that lack either of two can be passed over; and where too few words are left, no run is longer.
--- Where the pattern begins with one word again and again, so do the positions within a run of it.
 -- Assumes nothing.
-use Prim.Native.Nat.{ℕ, zero, suc, _+_, _-_, _≤_, _<_, max}
+use Prim.Native.Nat.{ℕ, _+_, _-_, _≤_, _<_, max}
 use native.Mathlib.Nat.{not-suc-le-zero}
 use native.Mathlib.Decide.{decLe, decLt, ℕ-discrete}
 use native.Mathlib.Omega.{arith}
-use mathlib.Core.Path.{_≡_, refl, sym, _∙_, ap, subst}
-use mathlib.Core.Bool.{false}
+use mathlib.Core.Path.{_≡_, sym, _∙_, subst}
 use mathlib.Core.List.{List}
-use borrow.Author.Tests.{le-leb, lt-leb}
 use lib.ListN.{length, take, drop, getD, length-drop}
 use lib.Seq.{getD-drop}
-use Rattle.symbol.specs.Word.{equalCalls, matches}
+use Rattle.symbol.specs.Word.{equalCalls}
 use Rattle.symbol.specs.Sequence.{Current}
 use Rattle.symbol.proofs.Retired.{match-equal}
 use Rattle.symbol.proofs.Sequence.{current-at, current-drop}
 use Rattle.tiling.specs.Run.{run, equalRun}
 use Rattle.tiling.proofs.Leading.{leading-within}
-use Rattle.tiling.proofs.Run.{run-within, run-match, run-stops, run-most}
+use Rattle.tiling.proofs.Run.{run-within, run-match}
 use Rattle.tiling.proofs.Replaced.{run-current}
 use Rattle.tile.specs.declared.TextAt.{TextAt}
 use Rattle.buffer.proofs.Buffer.{tail-is}
 use Rattle.measure.specs.Block.{counted}
-use Rattle.measure.proofs.Longer.{counted-longer, counted-most, counted-some}
-use Rattle.sweep.specs.Row.{Row, better}
+use Rattle.measure.proofs.Longer.{counted-longer, counted-most}
+use Rattle.sweep.specs.Row.{Row, better, passedOver}
 use Rattle.sweep.specs.First.{First}
 use Rattle.sweep.specs.declared.Found.{Found}
-use Rattle.plain.specs.Pair.{SideBySide, passedOver}
+use Rattle.plain.specs.Pair.{SideBySide}
 use Rattle.sweep.proofs.Row.{better-new, better-old}
-
--- ---- what is passed over after a run
-pub passed-within : (c len : ℕ) → len ≤ c → len ≡ passedOver c len
-unfolding passedOver
-passed-within c len h = rw (passedOver, le-leb len c h) refl
-
-pub passed-beyond : (c len : ℕ) → c < len → 0 ≡ passedOver c len
-unfolding passedOver
-passed-beyond c len h = rw (passedOver, lt-leb len c h) refl
-
-passed-all : (c len skip : ℕ) → len ≤ c → skip ≡ passedOver c len → skip ≡ len
-passed-all c len skip h e = e ∙ sym (passed-within c len h)
-
-passed-none : (c len skip : ℕ) → c < len → skip ≡ passedOver c len → skip ≡ 0
-passed-none c len skip h e = e ∙ sym (passed-beyond c len h)
-
-passed-most : (c len skip : ℕ) → skip ≡ passedOver c len → skip ≤ len
-passed-most c len skip e = go (decLe len c)
-  where
-    go : Dec (len ≤ c) → skip ≤ len
-    go (yes h) = omega (arith, passed-all c len skip h e)
-    go (no h) = omega (arith, passed-none c len skip (omega (arith, h)) e)
+use Rattle.sweep.proofs.Passed.{passed-most, passed-shorter}
 
 -- So many that they can be counted.
 pub passed-small : (ps xs : List ℕ) (best c len skip : ℕ) → length ps ≤ 2048 → len ≡ counted best (equalRun ps xs) → skip ≡ passedOver c len → skip ≤ 2048
 passed-small ps xs best c len skip h e k = omega (arith, passed-most c len skip k, e, counted-most best (equalRun ps xs), leading-within equalCalls ps xs)
 
--- The pattern against itself, one word further on.
-pub repeats-none : (ps : List ℕ) → length ps ≡ 0 → 0 ≡ equalRun ps (drop 1 ps)
-repeats-none ps h = omega (arith, leading-within equalCalls ps (drop 1 ps))
-
-pub repeats-some : (ps : List ℕ) (r : ℕ) → r ≡ max 0 (equalRun ps (take (length ps - 1) (drop 1 ps))) → r ≡ equalRun ps (drop 1 ps)
-repeats-some ps r e = let w : r ≡ max 0 (equalRun ps (drop 1 ps)) = rw (tail-is 1 ps) at e in omega (arith, w)
-
--- ---- a row
 -- What is known of the two parts.
 pub record Parts (ps ts : List ℕ) : Type 0 where
   pub short-pattern : length ps ≤ 2048
@@ -111,46 +79,14 @@ module _ (ps ts : List ℕ) (floor t : ℕ) (f : Found) (near again r len skip :
       go (no m) (yes d) = d
       go (no m) (no d) = absurd (c .none u (omega (arith, m)) l (both u (omega (arith, d))))
 
-  here : max (f .len) len ≡ max (f .len) (run ps (drop r ts))
-  here =
-      let same : len ≡ counted (f .len) (run ps (drop r ts)) = rw (tail-is r ts, run-current ps (drop r ts) (s .parts .current-pattern) (current-drop r ts (s .parts .current-text))) at e in
-      rw same (counted-longer (f .len) (run ps (drop r ts)))
-
   counted-run : len ≡ counted (f .len) (run ps (drop r ts))
   counted-run = rw (tail-is r ts, run-current ps (drop r ts) (s .parts .current-pattern) (current-drop r ts (s .parts .current-text))) at e
 
-  -- The first words of the pattern are one word again and again.
-  alike : (i : ℕ) → i ≤ again → getD ps i 0 ≡ getD ps 0 0
-  alike zero h = refl
-  alike (suc i) h = sym next ∙ alike i (omega arith)
-    where
-      own : run ps (drop 1 ps) ≡ again
-      own = sym (run-current ps (drop 1 ps) (s .parts .current-pattern) (current-drop 1 ps (s .parts .current-pattern))) ∙ sym ea
-
-      next : getD ps i 0 ≡ getD ps (suc i) 0
-      next =
-          let same = match-equal (getD ps i 0) (getD (drop 1 ps) i 0) (run-match ps (drop 1 ps) i (omega (arith, own))) in
-          sym (current-at ps (s .parts .current-pattern) i)
-          ∙ (same ∙ (current-at (drop 1 ps) (current-drop 1 ps (s .parts .current-pattern)) i ∙ (getD-drop 1 ps i 0 ∙ ap (λ (k : ℕ). getD ps k 0) (omega arith))))
-
-  -- A position within the run: the word that ended it is none of these.
-  within-run : len ≤ again → (u : ℕ) → r < u → u ≤ r + len → run ps (drop u ts) < len
-  within-run low u b d =
-      let i = r + len - u in
-      let exact : len ≡ run ps (drop r ts) = counted-run ∙ counted-some (f .len) (run ps (drop r ts)) (omega (arith, counted-run)) in
-      let there : u + i ≡ r + len = omega arith in
-      let word : getD (drop u ts) i 0 ≡ getD (drop r ts) len 0 = getD-drop u ts i 0 ∙ (ap (λ (k : ℕ). getD ts k 0) there ∙ sym (getD-drop r ts len 0)) in
-      let first : getD ps i 0 ≡ getD ps len 0 = alike i (omega arith) ∙ sym (alike len low) in
-      let stop : matches (getD ps len 0) (getD (drop r ts) len 0) ≡ false = rw (exact) (run-stops ps (drop r ts)) in
-      let none : matches (getD ps i 0) (getD (drop u ts) i 0) ≡ false = rw (first, word) stop in
-      omega (arith, run-most ps (drop u ts) i none)
+  here : max (f .len) len ≡ max (f .len) (run ps (drop r ts))
+  here = rw counted-run (counted-longer (f .len) (run ps (drop r ts)))
 
   skipped : (u : ℕ) → r < u → u < r + 1 + skip → run ps (drop u ts) < len
-  skipped u b d = go (decLe len again)
-    where
-      go : Dec (len ≤ again) → run ps (drop u ts) < len
-      go (yes h) = within-run h u b (omega (arith, passed-all again len skip h es))
-      go (no h) = absurd (omega (arith, passed-none again len skip (omega (arith, h)) es))
+  skipped = passed-shorter ps ts (s .parts .current-pattern) again ea r (f .len) len counted-run skip es
 
   reached : (n : ℕ) → f .len ≤ n → run ps (drop r ts) ≤ n → len ≤ n → (u : ℕ) → u < r + 1 + skip → run ps (drop u ts) ≤ n
   reached n l m o u b = go (ℕ-discrete u r) (decLt u r)

@@ -10,7 +10,6 @@ ghost use mathlib.Core.Path.{_≡_};
 ghost use Prim.Native.Nat.{_+_, _-_, _≤_, _<_};
 ghost use lib.ListN.{length, drop};
 ghost use Rattle.symbol.specs.Sequence.{Current};
-ghost use Rattle.tiling.specs.Run.{equalRun};
 ghost use Rattle.tiling.specs.Comparing.{plainRefusal};
 ghost use Rattle.sweep.specs.Workspace.{Space, state, bound};
 ghost use Rattle.sweep.specs.Row.{Row};
@@ -19,7 +18,7 @@ ghost use Rattle.sweep.specs.Blocks.{Covering};
 ghost use Rattle.sweep.specs.Progress.{Fits, Searched, UpperFrom, RowBound, Filled, Ready, Falling, Sweeping, Onward, Finished};
 ghost use Rattle.plain.specs.Promise.{Plain};
 ghost use Rattle.plain.specs.Bounds.{Capped, goesOn};
-ghost use Rattle.plain.specs.Pair.{SideBySide, passedOver};
+ghost use Rattle.plain.specs.Pair.{SideBySide};
 
 // The first position of the text from `from` on with a so many words further on and b further still; else the end of those that have
 // a word so far on. With few codes it is often `from` itself.
@@ -36,27 +35,6 @@ fn next_pair(text: &[u32], from: TextAt, near: usize, far: usize, a: u32, b: u32
     TextAt(at + measure::positions_before(&text[first..], &text[second..], a, b))
 }
 
-// How often the pattern's first word stands again right after it.
-fn repeats(pattern: &[u32]) -> usize
-    ensures { λ r. ⌜ r ≡ equalRun (now (pattern .entry)) (drop 1 (now (pattern .entry))) ⌝ }
-{
-    if pattern.len() == 0 {
-        return 0;
-    }
-    measure::longer_run(pattern, &pattern[1..], 0)
-}
-
-// How many positions after one with a run of len words have a shorter one: those within it, where the pattern's first word stands again so
-// often that all its words are the same.
-fn passed_over(again: usize, len: usize) -> usize
-    ensures { λ r. ⌜ r ≡ passedOver again len ⌝ }
-{
-    if len <= again {
-        return len;
-    }
-    0
-}
-
 // The longest run of the row that pattern starts, where it is longer than floor, and the first position on the text that
 // has it. A run longer than what was found has the pattern's word at that offset, and the one where the last run that was measured
 // ended, so only the positions where both stand are looked at; and none within a run of one word again and again.
@@ -68,7 +46,7 @@ fn row_search(pattern: &[u32], text: &[u32], floor: usize) -> Found
         t: TextAt(0),
         len: floor,
     };
-    let again = repeats(pattern);
+    let again = sweep::repeats(pattern);
     let mut ended = 0;
     let mut t = 0;
     while found.len < pattern.len() && t + found.len < text.len() {
@@ -77,7 +55,7 @@ fn row_search(pattern: &[u32], text: &[u32], floor: usize) -> Found
         let len = measure::measured_run(pattern, &text[at..], far);
         ended = sweep::lesser(len, far);
         found = sweep::keep(found, TextAt(at), len);
-        t = at + 1 + passed_over(again, len);
+        t = at + 1 + sweep::passed_over(again, len);
     }
     found
 }

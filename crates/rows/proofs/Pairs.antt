@@ -1,14 +1,14 @@
--- Looking at a pair of positions. A run longer than what was found begins with a window of s words, so the hashes at the pair are equal; it
+-- Visiting a pair of positions. A run longer than what was found begins with a window of s words, so the hashes at the pair are equal; it
 -- goes on beyond what was found, so those of the windows that end there are equal too, and the words at every offset before are equal calls.
--- Where any of these differ, there is nothing to look for.
+-- Where any of these differ, no run is longer.
 -- Assumes nothing.
-use Prim.Native.Nat.{ℕ, _+_, _-_, _≤_, _<_, min, max}
+use Prim.Native.Nat.{ℕ, _+_, _-_, _≤_, _<_, min}
 use native.Mathlib.Decide.{decLt}
 use native.Mathlib.Omega.{arith}
-use mathlib.Core.Path.{_≡_, refl, sym, _∙_, ap}
-use mathlib.Core.Bool.{Bool, true, false, _&&_}
+use mathlib.Core.Path.{_≡_, refl, _∙_, ap}
+use mathlib.Core.Bool.{Bool, true, false, _&&_, true≢false}
 use mathlib.Core.List.{List}
-use borrow.Author.Tests.{eqb-false}
+use borrow.Author.Tests.{eqb-false, le-leb, lt-leb}
 use lib.Dec.{eqb}
 use lib.ListN.{take, drop, getD, length-drop}
 use lib.Seq.{drop-drop, getD-drop, getD-take}
@@ -22,17 +22,17 @@ use Rattle.tiling.proofs.Run.{run-within}
 use Rattle.tiling.proofs.Replaced.{run-current}
 use Rattle.tile.specs.declared.TextAt.{TextAt}
 use Rattle.measure.specs.Block.{counted}
-use Rattle.measure.proofs.Longer.{counted-longer, counted-most}
+use Rattle.measure.proofs.Longer.{counted-most}
 use Rattle.sweep.specs.Workspace.{Space, state}
-use Rattle.sweep.specs.Row.{better}
+use Rattle.sweep.specs.Row.{better, passedOver}
 use Rattle.sweep.specs.declared.Found.{Found}
 use Rattle.sweep.specs.declared.Job.{Job}
-use Rattle.sweep.proofs.Row.{better-old}
 use Rattle.sweep.proofs.Bounds.{run-further}
 use Rattle.sweep.proofs.Workspace.{pattern-length, text-length}
 use Rattle.index.specs.Indexed.{patternHash, textHash}
 use Rattle.index.specs.declared.Pass.{Pass}
-use Rattle.rows.specs.Reached.{Alike, lookedAt}
+use Rattle.rows.specs.Reached.{Alike, mayBeLonger, afterRun, visited}
+use Rattle.rows.specs.declared.Walk.{Walk}
 
 -- The run of the two parts that begin at the positions.
 pub run-of-parts : (j : Job) (ws : List ℕ) (p t best r : ℕ) → Space j ws → r ≡ counted best (equalRun (take (j .n - p) (drop p ws)) (take (j .n + j .m - (j .n + t)) (drop (j .n + t) ws))) → r ≡ counted best (runAt (state j ws) p t)
@@ -47,33 +47,61 @@ run-of-parts j ws p t best r s e =
 pub alike-is : (j : Job) (ws : List ℕ) (p t x y : ℕ) → x ≡ textHash j ws t → y ≡ patternHash j ws p → eqb x y ≡ eqb (textHash j ws t) (patternHash j ws p)
 alike-is j ws p t x y a b = rw (a, b) refl
 
+-- The row's first word, again and again.
+pub row-repeats : (j : Job) (ws : List ℕ) (p r : ℕ) → r ≡ equalRun (take (j .n - p) (drop p ws)) (drop 1 (take (j .n - p) (drop p ws))) → r ≡ equalRun (drop p (state j ws .pattern)) (drop 1 (drop p (state j ws .pattern)))
+row-repeats j ws p r e = rw (rest-of-front p (j .n) ws) at e
+
+-- A run is no longer than the row.
+pub run-small : (j : Job) (ws : List ℕ) (p t best r : ℕ) → Space j ws → r ≡ counted best (runAt (state j ws) p t) → r ≤ 2048
+run-small j ws p t best r s e =
+    omega (arith, e, counted-most best (runAt (state j ws) p t), run-within (drop p (state j ws .pattern)) (drop t (state j ws .text)), length-drop p (state j ws .pattern), pattern-length j ws s, s .short-pattern)
+
+pub after-is : (w : Walk) (a : TextAt) (len ended skip : ℕ) (g : Found) → g ≡ better (w .found) a len → ended ≡ min len (w .found .len) → skip ≡ passedOver (w .again) len → record { found = g; ended = ended; again = w .again; past = a .0 + 1 + skip } ≡ afterRun w a len
+unfolding afterRun
+after-is w a len ended skip g eg ee es = rw (eg, ee, es) refl
+
 -- ---- what the code tests in turn
-module _ (x : Pass) (ws : List ℕ) (p t len ended : ℕ) (a : Bool) (ea : a ≡ eqb (textHash (x .job) ws t) (patternHash (x .job) ws p)) where
-  pub look-unlike : a ≡ false → ended ≡ lookedAt x ws p t len ended
-  unfolding lookedAt
-  look-unlike z = rw (lookedAt, ← ea, z) refl
+module _ (x : Pass) (ws : List ℕ) (p t : ℕ) (w : Walk) (a : Bool) (ea : a ≡ eqb (textHash (x .job) ws t) (patternHash (x .job) ws p)) where
+  pub may-unlike : a ≡ false → false ≡ mayBeLonger x ws p t w
+  unfolding mayBeLonger
+  may-unlike z = rw (mayBeLonger, ← ea, z) refl
 
-  module _ (za : a ≡ true) (b : Bool) (eb : b ≡ eqb (textHash (x .job) ws (t + (len + 1 - x .s))) (patternHash (x .job) ws (p + (len + 1 - x .s)))) where
-    pub look-ended : b ≡ false → ended ≡ lookedAt x ws p t len ended
-    unfolding lookedAt
-    look-ended z = rw (lookedAt, ← ea, za, ← eb, z) refl
+  module _ (za : a ≡ true) (b : Bool) (eb : b ≡ eqb (textHash (x .job) ws (t + (w .found .len + 1 - x .s))) (patternHash (x .job) ws (p + (w .found .len + 1 - x .s)))) where
+    pub may-ended : b ≡ false → false ≡ mayBeLonger x ws p t w
+    unfolding mayBeLonger
+    may-ended z = rw (mayBeLonger, ← ea, za, ← eb, z) refl
 
-    module _ (zb : b ≡ true) (c : Bool) (ec : c ≡ equalCalls (getD ws (p + ended) 0) (getD ws (x .job .n + t + ended) 0)) where
-      pub look-stopped : c ≡ false → ended ≡ lookedAt x ws p t len ended
-      unfolding lookedAt
-      look-stopped z = rw (lookedAt, ← ea, za, ← eb, zb, ← ec, z) refl
+    pub may-words : b ≡ true → (c : Bool) → c ≡ equalCalls (getD ws (p + w .ended) 0) (getD ws (x .job .n + t + w .ended) 0) → c ≡ mayBeLonger x ws p t w
+    unfolding mayBeLonger
+    may-words zb c ec = ec ∙ rw (mayBeLonger, ← ea, za, ← eb, zb) refl
 
-      pub look-run : c ≡ true → (r : ℕ) → r ≡ counted len (runAt (state (x .job) ws) p t) → r ≡ lookedAt x ws p t len ended
-      unfolding lookedAt
-      look-run z r e = e ∙ rw (lookedAt, ← ea, za, ← eb, zb, ← ec, z) refl
+module _ (x : Pass) (ws : List ℕ) (p : ℕ) (t : TextAt) (w : Walk) where
+  pub visit-passed : t .0 < w .past → w ≡ visited x ws p t w
+  unfolding visited
+  visit-passed h = rw (visited, lt-leb (w .past) (t .0) h) refl
+
+  module _ (h : w .past ≤ t .0) (b : Bool) (e : b ≡ mayBeLonger x ws p (t .0) w) where
+    pub visit-dismissed : b ≡ false → w ≡ visited x ws p t w
+    unfolding visited
+    visit-dismissed z = rw (visited, le-leb (w .past) (t .0) h, ← e, z) refl
+
+    pub visit-measured : b ≡ true → (len : ℕ) → len ≡ counted (w .found .len) (runAt (state (x .job) ws) p (t .0)) → (v : Walk) → v ≡ afterRun w t len → v ≡ visited x ws p t w
+    unfolding visited
+    visit-measured z len k v q = q ∙ rw (k, visited, le-leb (w .past) (t .0) h, ← e, z) refl
 
 -- ---- what it tells of the run
-module _ (x : Pass) (ws : List ℕ) (p t len ended : ℕ) (space : Space (x .job) ws) where
+module _ (x : Pass) (ws : List ℕ) (p t : ℕ) (w : Walk) (space : Space (x .job) ws) where
   abbrev j : Job
   j = x .job
 
   abbrev s : ℕ
   s = x .s
+
+  abbrev len : ℕ
+  len = w .found .len
+
+  abbrev ended : ℕ
+  ended = w .ended
 
   abbrev ps : List ℕ
   ps = drop p (state j ws .pattern)
@@ -112,36 +140,13 @@ module _ (x : Pass) (ws : List ℕ) (p t len ended : ℕ) (space : Space (x .job
         go (yes h) = absurd (n (alike (p + d) (t + d) (run-further (state j ws) p t d s (omega arith))))
         go (no h) = omega (arith, h)
 
-    -- It is longer than len just where the run is, and then it is the run.
-    looked-longer : max len (lookedAt x ws p t len ended) ≡ max len (runAt (state j ws) p t)
-    unfolding lookedAt
-    looked-longer = go (eqb (textHash j ws t) (patternHash j ws p)) (eqb (textHash j ws (t + (len + 1 - s))) (patternHash j ws (p + (len + 1 - s)))) (equalCalls (getD ws (p + ended) 0) (getD ws (j .n + t + ended) 0)) refl refl refl
+    -- Where nothing speaks for a longer run, there is none.
+    pub not-longer : mayBeLonger x ws p t w ≡ false → runAt (state j ws) p t ≤ len
+    unfolding mayBeLonger
+    not-longer z = go (eqb (textHash j ws t) (patternHash j ws p)) (eqb (textHash j ws (t + (len + 1 - s))) (patternHash j ws (p + (len + 1 - s)))) (equalCalls (getD ws (p + ended) 0) (getD ws (j .n + t + ended) 0)) refl refl refl z
       where
-        go : (a b c : Bool) → eqb (textHash j ws t) (patternHash j ws p) ≡ a → eqb (textHash j ws (t + (len + 1 - s))) (patternHash j ws (p + (len + 1 - s))) ≡ b → equalCalls (getD ws (p + ended) 0) (getD ws (j .n + t + ended) 0) ≡ c → max len (elim (a && (b && c)) [ true ↦ counted len (runAt (state j ws) p t) | false ↦ ended ]) ≡ max len (runAt (state j ws) p t)
-        go true true true ea eb ec = counted-longer len (runAt (state j ws) p t)
-        go true true false ea eb ec = omega (arith, stopped ec)
-        go true false c ea eb ec = omega (arith, unlike-further (len + 1 - s) refl (eqb-false _ _ eb))
-        go false b c ea eb ec = omega (arith, unlike-here (eqb-false _ _ ea))
-
-  -- The offset is one of the row still.
-  pub looked-inside : (r d : ℕ) → p < j .n → p + ended ≤ j .n → r ≡ lookedAt x ws p t len ended → d ≡ min r len → p + d ≤ j .n
-  unfolding lookedAt
-  looked-inside r d row h e k = let inside : p + r ≤ j .n = rw e (go (eqb (textHash j ws t) (patternHash j ws p) && (eqb (textHash j ws (t + (len + 1 - s))) (patternHash j ws (p + (len + 1 - s))) && equalCalls (getD ws (p + ended) 0) (getD ws (j .n + t + ended) 0)))) in omega (arith, k)
-    where
-      go : (b : Bool) → p + elim b [ true ↦ counted len (runAt (state j ws) p t) | false ↦ ended ] ≤ j .n
-      go true = omega (arith, counted-most len (runAt (state j ws) p t), run-within ps ts, length-drop p (state j ws .pattern), pattern-length j ws space)
-      go false = h
-
--- What is kept of it is what is kept of the run.
-pub looked-kept : (x : Pass) (ws : List ℕ) (p ended len : ℕ) (a : TextAt) (f g : Found) → Space (x .job) ws → Alike x ws → x .s ≤ f .len + 1 → ended ≤ f .len → len ≡ lookedAt x ws p (a .0) (f .len) ended → g ≡ better f a len → g ≡ better f a (runAt (state (x .job) ws) p (a .0))
-looked-kept x ws p ended len a f g space alike least order e k = k ∙ go (decLt (f .len) r)
-  where
-    r : ℕ
-    r = runAt (state (x .job) ws) p (a .0)
-
-    same : max (f .len) len ≡ max (f .len) r
-    same = rw e (looked-longer x ws p (a .0) (f .len) ended space alike least order)
-
-    go : Dec (f .len < r) → better f a len ≡ better f a r
-    go (yes h) = let m : len ≡ r = omega (arith, same) in rw m refl
-    go (no h) = sym (better-old f a len (omega (arith, same, h))) ∙ better-old f a r (omega (arith, h))
+        go : (a b c : Bool) → eqb (textHash j ws t) (patternHash j ws p) ≡ a → eqb (textHash j ws (t + (len + 1 - s))) (patternHash j ws (p + (len + 1 - s))) ≡ b → equalCalls (getD ws (p + ended) 0) (getD ws (j .n + t + ended) 0) ≡ c → (a && (b && c)) ≡ false → runAt (state j ws) p t ≤ len
+        go true true true ea eb ec y = absurd (true≢false y)
+        go true true false ea eb ec y = omega (arith, stopped ec)
+        go true false c ea eb ec y = unlike-further (len + 1 - s) refl (eqb-false _ _ eb)
+        go false b c ea eb ec y = unlike-here (eqb-false _ _ ea)

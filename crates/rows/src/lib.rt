@@ -1,4 +1,4 @@
-// Rows searched by the index. A word of the pattern is compared with one of the text in `look` and in `goes_on`, only where two
+// Rows searched by the index. A word of the pattern is compared with one of the text in `visit` and in `goes_on`, only where two
 // windows have the same hash, and nowhere else in the fast engine.
 use index::Pass;
 use sweep::Found;
@@ -16,7 +16,16 @@ ghost use Rattle.sweep.specs.Workspace.{Space, state};
 ghost use Rattle.sweep.specs.Progress.{UpperFrom, RowBound};
 ghost use Rattle.index.specs.Indexed.{Ranges, Indexed, Filtered, patternHash, textHash, place};
 ghost use Rattle.index.specs.Built.{when};
-ghost use Rattle.rows.specs.Reached.{Reached, Looked, FilledRows, lookedAt, toldBy, goesOn};
+ghost use Rattle.rows.specs.Reached.{Reached, Looked, FilledRows, Within, mayBeLonger, afterRun, visited, Begun, toldBy, goesOn};
+
+// How far the search of a row has come: what was found, the offset at which the last run that was measured ended, how often the row's
+// first word stands again right after it, and up to which position the text is passed over.
+struct Walk {
+    found: Found,
+    ended: usize,
+    again: usize,
+    past: usize,
+}
 
 // The run at a pair of positions, of which one longer than best is looked for.
 fn run_at(ws: &[u32], job: Job, p: PatternAt, t: TextAt, best: usize) -> usize
@@ -47,47 +56,84 @@ fn ends_alike(ws: &[u32], pass: Pass, p: PatternAt, t: TextAt, len: usize) -> bo
     same_hash(ws, pass.job, PatternAt(p.0 + from), TextAt(t.0 + from))
 }
 
-// Looks at a pair of positions, for a run longer than len, only where the windows of s words that begin there have the same hash. Such a
-// run goes on beyond len words, so the windows that end there have the same hash too, and the words at every offset before match; the
-// one is asked first at which the last run that was measured ended. Where no such run can be, it is that offset.
-fn look(ws: &[u32], pass: Pass, p: PatternAt, t: TextAt, len: usize, ended: usize) -> usize
-    requires { ⌜ Space (pass .job) (now ws) × Ranges pass × (p .0 < pass .job .n) × (t .0 < pass .job .m) × (pass .s ≤ len + 1) × (p .0 + (len + 1 - pass .s) ≤ pass .job .n) × (p .0 + ended ≤ pass .job .n) ⌝ }
-    ensures { λ r. ⌜ r ≡ lookedAt pass (now (ws .entry)) (p .0) (t .0) len ended ⌝ }
+// Whether a run at a pair of positions may be longer than what was found. Such a run begins with a window of s words and goes on beyond what
+// was found, so the windows that begin and those that end there have the same hashes, and the words at every offset before match; the one
+// is asked at which the last run that was measured ended.
+fn may_be_longer(ws: &[u32], pass: Pass, p: PatternAt, t: TextAt, walk: Walk) -> bool
+    requires { ⌜ Space (pass .job) (now ws) × Ranges pass × (p .0 < pass .job .n) × (t .0 < pass .job .m) × Within pass (p .0) walk ⌝ }
+    ensures { λ r. ⌜ r ≡ mayBeLonger pass (now (ws .entry)) (p .0) (t .0) walk ⌝ }
 {
     if !same_hash(ws, pass.job, p, t) {
-        return ended;
+        return false;
     }
-    if !ends_alike(ws, pass, p, t, len) {
-        return ended;
+    if !ends_alike(ws, pass, p, t, walk.found.len) {
+        return false;
     }
-    let on_pattern = p.0 + ended;
-    let on_text = pass.job.n + t.0 + ended;
-    if !symbol::equal_calls(ws[on_pattern], ws[on_text]) {
-        return ended;
-    }
-    run_at(ws, pass.job, p, t, len)
+    let on_pattern = p.0 + walk.ended;
+    let on_text = pass.job.n + t.0 + walk.ended;
+    symbol::equal_calls(ws[on_pattern], ws[on_text])
 }
 
-// The longest run of the row at p, where it has at least s words, and the first position on the text that has it; or the first
-// run of at least cap words that is met. Only the positions in the bucket of p's window are visited.
-fn row_search(ws: &[u32], pass: Pass, heads: &[u32; 1024], p: PatternAt, cap: usize) -> Found
-    requires { ⌜ Space (pass .job) (now ws) × Indexed pass (now ws) (now heads) × Ranges pass × (p .0 < pass .job .n) ⌝ }
-    ensures { λ r. ⌜ Reached (drop (p .0) (state (pass .job) (now (ws .entry)) .pattern)) (state (pass .job) (now (ws .entry)) .text) (pass .s - 1) cap r ⌝ }
+// What is known after a run of len words at t was measured.
+fn after_run(walk: Walk, t: TextAt, len: usize) -> Walk
+    requires { ⌜ (t .0 ≤ 2048) × (len ≤ 2048) ⌝ }
+    ensures { λ r. ⌜ r ≡ afterRun walk t len ⌝ }
 {
-    let mut found = Found {
-        t: TextAt(0),
-        len: pass.s - 1,
-    };
-    let mut ended = 0;
+    Walk {
+        found: sweep::keep(walk.found, t, len),
+        ended: sweep::lesser(len, walk.found.len),
+        again: walk.again,
+        past: t.0 + 1 + sweep::passed_over(walk.again, len),
+    }
+}
+
+// Visits a position of the text: the run there is measured where it is not passed over and may be longer than what was found.
+fn visit(ws: &[u32], pass: Pass, p: PatternAt, t: TextAt, walk: Walk) -> Walk
+    requires { ⌜ Space (pass .job) (now ws) × Ranges pass × (p .0 < pass .job .n) × (t .0 < pass .job .m) × Within pass (p .0) walk ⌝ }
+    ensures { λ r. ⌜ r ≡ visited pass (now (ws .entry)) (p .0) t walk ⌝ }
+{
+    if t.0 < walk.past {
+        return walk;
+    }
+    if !may_be_longer(ws, pass, p, t, walk) {
+        return walk;
+    }
+    let len = run_at(ws, pass.job, p, t, walk.found.len);
+    after_run(walk, t, len)
+}
+
+// How a search begins: what was found is a word less than a window, and no position is passed over.
+fn begin(ws: &[u32], pass: Pass, p: PatternAt) -> Walk
+    requires { ⌜ Space (pass .job) (now ws) × Ranges pass × (p .0 < pass .job .n) ⌝ }
+    ensures { λ r. ⌜ Begun pass (now (ws .entry)) (p .0) r ⌝ }
+{
+    let from = p.0;
+    let n = pass.job.n;
+    Walk {
+        found: Found {
+            t: TextAt(0),
+            len: pass.s - 1,
+        },
+        ended: 0,
+        again: sweep::repeats(&ws[from..n]),
+        past: 0,
+    }
+}
+
+// Searches row p for its longest run, where it has at least s words, and the first position on the text that has it; or the first
+// run of at least cap words that is met. Only the positions in the bucket of p's window are visited.
+fn row_search(ws: &[u32], pass: Pass, heads: &[u32; 1024], p: PatternAt, cap: usize) -> Walk
+    requires { ⌜ Space (pass .job) (now ws) × Indexed pass (now ws) (now heads) × Ranges pass × (p .0 < pass .job .n) ⌝ }
+    ensures { λ r. ⌜ Reached (drop (p .0) (state (pass .job) (now (ws .entry)) .pattern)) (state (pass .job) (now (ws .entry)) .text) (pass .s - 1) cap (r .found) ⌝ }
+{
+    let mut walk = begin(ws, pass, p);
     let own = index::pattern_hash(ws, pass.job, p);
     let mut t = index::first_text(heads, index::bucket_of(own, pass.buckets));
-    while t.0 < pass.job.m && found.len < pass.job.m - t.0 && found.len < cap {
-        let len = look(ws, pass, p, t, found.len, ended);
-        ended = sweep::lesser(len, found.len);
-        found = sweep::keep(found, t, len);
+    while t.0 < pass.job.m && walk.found.len < pass.job.m - t.0 && walk.found.len < cap {
+        walk = visit(ws, pass, p, t, walk);
         t = index::next_text(ws, pass.job, t);
     }
-    found
+    walk
 }
 
 // The row that was remembered at a place; 2,048, which is past every pattern, where there is none.
@@ -123,7 +169,7 @@ fn search_row(
     requires { ⌜ Space (pass .job) (now ws) × Indexed pass (now ws) (now heads) × Ranges pass × (p .0 < pass .job .n) ⌝ }
     ensures { λ r. ⌜ Reached (drop (p .0) (state (pass .job) (now (ws .entry)) .pattern)) (state (pass .job) (now (ws .entry)) .text) (pass .s - 1) cap r ⌝ }
 {
-    let found = row_search(ws, pass, heads, p, cap);
+    let found = row_search(ws, pass, heads, p, cap).found;
     remember(ws, pass, last, p, found.len, cap);
     found
 }

@@ -4,6 +4,7 @@ pub mod Row
 pub mod First
 pub mod Blocks
 pub mod Told
+pub mod Passed
 pub mod Bounds
 pub mod Step
 pub mod Settled

@@ -56,6 +56,11 @@ freeWords j ws p cap =
     let len = min cap (j .n - p) in
     elim (isCall (getD row (len - 1) 0)) [ true ↦ len | false ↦ run row row ]
 
+-- How many positions after one with a run of len words have a shorter one, where the row begins with the same word again and again, c
+-- times after the first: the run ends at a word of the text that is none of these, and so does every one that begins within it.
+unfoldable pub passedOver : ℕ → ℕ → ℕ
+passedOver c len = elim (leb len c) [ true ↦ len | false ↦ 0 ]
+
 -- The position just before t in a text of m words; m where there is none.
 unfoldable pub before : ℕ → ℕ → ℕ
 before zero m = m

@@ -6,9 +6,9 @@ ghost use mathlib.Core.Path.{_≡_};
 ghost use Prim.Native.Nat.{_+_, _-_, _*_, _/_, _≤_, _<_, min, max};
 ghost use lib.Dec.{ltb};
 ghost use lib.ListN.{length, drop, getD, set};
-ghost use Rattle.tiling.specs.Run.{run};
+ghost use Rattle.tiling.specs.Run.{run, equalRun};
 ghost use Rattle.sweep.specs.Workspace.{Space, state, boundsFrom, bound, laid};
-ghost use Rattle.sweep.specs.Row.{better, Greatest, alikeBound, boundBy, freeWords, before, takenOver};
+ghost use Rattle.sweep.specs.Row.{better, Greatest, alikeBound, boundBy, freeWords, passedOver, before, takenOver};
 ghost use Rattle.sweep.specs.First.{First};
 ghost use Rattle.sweep.specs.Blocks.{BlockSet, Refreshed, Covering, rowAfter};
 ghost use Rattle.sweep.specs.Settled.{settledWords, settledTiles, settledTotals, settledRows};
@@ -278,6 +278,27 @@ pub fn free_words(ws: &[u32], job: Job, p: PatternAt, cap: usize) -> usize
         return len;
     }
     measure::longer_run(&ws[from..n], &ws[from..n], 0)
+}
+
+// How often a row's first word stands again right after it.
+pub fn repeats(row: &[u32]) -> usize
+    ensures { λ r. ⌜ r ≡ equalRun (now (row .entry)) (drop 1 (now (row .entry))) ⌝ }
+{
+    if row.len() == 0 {
+        return 0;
+    }
+    measure::longer_run(row, &row[1..], 0)
+}
+
+// How many positions after one with a run of len words have a shorter one: those within it, where the row's first word stands again so
+// often that all its words are the same.
+pub fn passed_over(again: usize, len: usize) -> usize
+    ensures { λ r. ⌜ r ≡ passedOver again len ⌝ }
+{
+    if len <= again {
+        return len;
+    }
+    0
 }
 
 // The position just before t in a text of m words; m where there is none.

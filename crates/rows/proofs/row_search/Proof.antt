@@ -1,6 +1,6 @@
 -- `rows::row_search` meets its contract: at the head of each turn what was found is the longest of the runs before t, or one word less than a window.
 -- Assumes nothing.
-use Rattle.rows.proofs.Walk.{Walked, walk-low, walk-none, walk-more, walk-rises, walk-end, walk-past, walk-cap}
+use Rattle.rows.proofs.Walking.{Walked, walk-none, walk-more, walk-rises, walk-end, walk-past, walk-cap}
 use Prim.Native.Nat.{_-_}
 use borrow.Author.Tests.{ltb-false}
 use borrow.Author.Needs.{needs}
@@ -8,13 +8,13 @@ use Rattle.rows.proofs.row_search.Statement.{statement}
 use Rattle.rows.proofs.row_search.Tie as tie
 
 abbrev Inv-loop : tie.InvT-loop
-Inv-loop ws pass heads p cap found₀ ended₀ own t₀ found ended t = Walked pass ws heads (p .0) (t .0) ended found
+Inv-loop ws pass heads p cap walk₀ own t₀ walk t = Walked pass ws heads (p .0) (t .0) walk
 
 abbrev μ-loop : tie.MeasureT-loop
-μ-loop ws pass heads p cap found₀ ended₀ own t₀ found ended t = pass .job .m - t .0
+μ-loop ws pass heads p cap walk₀ own t₀ walk t = pass .job .m - t .0
 
-sub-first-text : tie.Need-sub-first-text Inv-loop μ-loop
-sub-first-text c = search needs
+begin-requires : tie.Need-begin-requires Inv-loop μ-loop
+begin-requires c κs = search needs
 
 pattern-hash-requires : tie.Need-pattern-hash-requires Inv-loop μ-loop
 pattern-hash-requires c κs = search needs
@@ -31,14 +31,8 @@ loop-holds c = search walk-none
 sub-if2 : tie.Need-sub-if2 Inv-loop μ-loop
 sub-if2 c = search needs
 
-look-requires : tie.Need-look-requires Inv-loop μ-loop
-look-requires c κs = (search needs, search needs, search needs, search needs, search walk-low, search needs, search needs)
-
-lesser-requires : tie.Need-lesser-requires Inv-loop μ-loop
-lesser-requires c κs = search needs
-
-keep-requires : tie.Need-keep-requires Inv-loop μ-loop
-keep-requires c κs = search needs
+visit-requires : tie.Need-visit-requires Inv-loop μ-loop
+visit-requires c κs = (search needs, search needs, search needs, search needs, search needs)
 
 next-text-requires : tie.Need-next-text-requires Inv-loop μ-loop
 next-text-requires c κs = search needs
@@ -64,15 +58,13 @@ row-search-spec =
     (tie.spec
     Inv-loop
     μ-loop
-    sub-first-text
+    begin-requires
     pattern-hash-requires
     bucket-of-requires
     first-text-requires
     loop-holds
     sub-if2
-    look-requires
-    lesser-requires
-    keep-requires
+    visit-requires
     next-text-requires
     loop-less
     loop-again

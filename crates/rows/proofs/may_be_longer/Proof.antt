@@ -1,22 +1,22 @@
--- `rows::look` meets its contract: the hashes and the words are tested in turn, and only then the run is measured.
+-- `rows::may_be_longer` meets its contract: the hashes and the words are tested in turn.
 -- Assumes nothing.
 use borrow.Author.Tests.{not-true, not-false}
-use Rattle.rows.proofs.Pairs.{look-unlike, look-ended, look-stopped, look-run}
+use Rattle.rows.proofs.Pairs.{may-unlike, may-ended, may-words}
 use borrow.Author.Needs.{needs}
-use Rattle.rows.proofs.look.Statement.{statement}
-use Rattle.rows.proofs.look.Tie as tie
+use Rattle.rows.proofs.may_be_longer.Statement.{statement}
+use Rattle.rows.proofs.may_be_longer.Tie as tie
 
 same-hash-requires : tie.Need-same-hash-requires
 same-hash-requires c κs = search needs
 
 returns : tie.Need-returns
-returns c = search (look-unlike, not-true)
+returns c = search (may-unlike, not-true)
 
 ends-alike-requires : tie.Need-ends-alike-requires
 ends-alike-requires c κs = search needs
 
 returns-2 : tie.Need-returns-2
-returns-2 c = search (look-ended, not-true, not-false)
+returns-2 c = search (may-ended, not-true, not-false)
 
 add-on-pattern : tie.Need-add-on-pattern
 add-on-pattern c = search needs
@@ -43,17 +43,10 @@ equal-calls-requires : tie.Need-equal-calls-requires
 equal-calls-requires c κs = search needs
 
 returns-3 : tie.Need-returns-3
-returns-3 c =
-    look-stopped _ _ _ _ _ _ _ (c .before .before .before .before .before .before .before .before .before .before .same-hash .ensures) (search not-false) _ (c .before .before .before .before .before .before .before .before .ends-alike .ensures) (search not-false) _ (c .before .equal-calls .ensures) (search not-true)
+returns-3 c = search (may-words, not-false)
 
-run-at-requires : tie.Need-run-at-requires
-run-at-requires c κs = search needs
-
-returns-4 : tie.Need-returns-4
-returns-4 c = search (look-run, not-false)
-
-pub look-spec : {M : Type 1} → statement M
-look-spec =
+pub may-be-longer-spec : {M : Type 1} → statement M
+may-be-longer-spec =
     tie.close
     (tie.spec
     same-hash-requires
@@ -68,6 +61,4 @@ look-spec =
     mul-equal-calls-2
     shared-slice-read-equal-calls-2
     equal-calls-requires
-    returns-3
-    run-at-requires
-    returns-4)
+    returns-3)

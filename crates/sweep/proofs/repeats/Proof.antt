@@ -1,9 +1,9 @@
--- `plain::repeats` meets its contract: the pattern is measured against itself, one word further on.
+-- `sweep::repeats` meets its contract: the row is measured against itself, one word further on.
 -- Assumes nothing.
-use Rattle.plain.proofs.Scan.{repeats-none, repeats-some}
+use Rattle.sweep.proofs.Passed.{repeats-none, repeats-some}
 use borrow.Author.Needs.{needs}
-use Rattle.plain.proofs.repeats.Statement.{statement}
-use Rattle.plain.proofs.repeats.Tie as tie
+use Rattle.sweep.proofs.repeats.Statement.{statement}
+use Rattle.sweep.proofs.repeats.Tie as tie
 
 returns : tie.Need-returns
 returns c = search repeats-none

@@ -1,8 +1,8 @@
--- `plain::passed_over` meets its contract, by its two cases.
+-- `sweep::passed_over` meets its contract, by its two cases.
 -- Assumes nothing.
-use Rattle.plain.proofs.Scan.{passed-within, passed-beyond}
-use Rattle.plain.proofs.passed_over.Statement.{statement}
-use Rattle.plain.proofs.passed_over.Tie as tie
+use Rattle.sweep.proofs.Passed.{passed-within, passed-beyond}
+use Rattle.sweep.proofs.passed_over.Statement.{statement}
+use Rattle.sweep.proofs.passed_over.Tie as tie
 
 returns : tie.Need-returns
 returns c = search passed-within
