@@ -44,11 +44,7 @@ static TABLE: Table = Table {
             measure: Measure::Ratio(&FAST, &WISE),
             most: 3.0,
             rows: Rows::OwnHash,
-            others: &[
-                ("found by search, 8", 12.0),
-                ("found by search, 9", 12.0),
-                ("found by search, 10", 12.0),
-            ],
+            others: &[("found by search, 11", 4.0), ("found by search, 12", 4.0)],
             exceptions: &[],
         },
         Everywhere {
@@ -298,7 +294,7 @@ pub fn families() -> Vec<Family> {
 type Found = (&'static str, u32, [u32; 3], [&'static str; 2]);
 
 #[rustfmt::skip]
-const FOUND: [Found; 10] = [
+const FOUND: [Found; 12] = [
     ("found by search, 1", 70, [1 << 31, 1_021, 70], [
         "2x3 4x38 1x8 4x163 2 4x1835",
         "4x47 5 4x520 1 4x288 1 4x288 1 4x288 1 4x288 1 4x323",
@@ -338,6 +334,14 @@ const FOUND: [Found; 10] = [
     ("found by search, 10", 1, [257, 1_021, 1], [
         "1x1226 2 1x15 - 1x758 4 1x25",
         "1x20 2 1x21 2 1x22 2 1x23 2 1x24 2 1x220 - 1x188 3 1x496 - 1x1026",
+    ]),
+    ("found by search, 11", 10, [257, 1_021, 10], [
+        "1x559 3 1x313 5 1x396 3 1x152 3 1x619",
+        "1x25 2 1 2 1x14 2 1x55 2 1x13 (2 1x10)x3 1x39 2 1x10 - 1x21 2 1x92 2 1x38 - 1x9 2 1x42 4 1x9 2 1x104 2 1x56 2 1x80 2 1x48 2 1x47 2 1x70 2 1x70 2 1x205 - 1x143 -x2 1x140 5 1x138 3 1x522",
+    ]),
+    ("found by search, 12", 21, [257, 1_021, 21], [
+        "1x113 2 1x300 2 1x770 3 1x15 2 1x55 2 1x210 3 1x579",
+        "1x40 2 1x41 2 1x42 2 1x7 - 1x36 2 1x54 2 1x48 2 1x66 2 1x24 4 1x163 2 1x155 3 1x57 3 1x15 2 1x55 2 1x29 2 1x111 3 1x54 2 1x19 2 1x23 4 1x50 2 1x67 2 1x160 2 1x166 4 1x543",
     ]),
 ];
 
