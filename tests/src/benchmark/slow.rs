@@ -207,6 +207,11 @@ fn permutations(random: &mut Random) -> Vec<u32> {
     blocks.map(|code| call(code as u16)).collect()
 }
 
+/// Two codes in turn.
+fn two_in_turn() -> Vec<u32> {
+    (0..MAX_WORDS).map(|at| call(1 + at as u16 % 2)).collect()
+}
+
 /// Forty codes, one of which has half of all words.
 fn half_one_code(random: &mut Random) -> Pair {
     [(); 2].map(|()| {
@@ -285,7 +290,17 @@ pub fn families() -> Vec<Family> {
             [(); 2].map(|()| permutations(random)),
             &[(16, &[START])],
         ),
-        Family::new("one code of 40 in two", half_one_code(random), USUAL),
+        Family {
+            name: "one code of 40 in two",
+            pair: half_one_code(random),
+            lengths: &[(8, &[START]), (1, &[START])],
+            hashes: EVERY_HASH,
+        },
+        Family::new(
+            "two codes against a period",
+            [calls(random, MAX_WORDS, 2), two_in_turn()],
+            &[(2, &[START, 2_048])],
+        ),
     ]
 }
 

@@ -28,11 +28,12 @@ const PART: [usize; 2] = [1_000, 64];
 
 /// The pairs on which the fast engine may be slower than the plain one, because its index cannot pay,
 /// each with the reason.
-const INDEX_CANNOT_PAY: [(&str, &str); 9] = [
+const INDEX_CANNOT_PAY: [(&str, &str); 10] = [
     ("identical", ONE_SEARCH),
     ("one code", ONE_SEARCH),
     ("one code, broken", ONE_SEARCH),
     ("periodic", ONE_SEARCH),
+    ("wc1.5 wc2.5", PASSED_OVER),
     ("wc3.5 wc4.5", ONE_SEARCH),
     ("short, 32 words", NOT_YET),
     ("short, 64 words", NOT_YET),
@@ -40,6 +41,8 @@ const INDEX_CANNOT_PAY: [(&str, &str); 9] = [
     ("short, 256 words", NOT_YET),
 ];
 const ONE_SEARCH: &str = "one search or a few find the tiles, and an index costs more than they do";
+const PASSED_OVER: &str =
+    "a search passes over one code as fast as it reads it, and an index costs more";
 const NOT_YET: &str = "an index costs more than looking at all pairs";
 
 #[rustfmt::skip]
