@@ -6,15 +6,15 @@ use native.Mathlib.Numerals.{add-one}
 use native.Mathlib.Decide.{decLt}
 use native.Mathlib.Omega.{arith}
 use mathlib.Core.Path.{_≡_, refl, sym, _∙_, ap}
-use mathlib.Core.Bool.{Bool, true, false, _||_}
+use mathlib.Core.Bool.{Bool, true, false, _&&_, _||_}
 use mathlib.Core.List.{List}
-use borrow.Author.Tests.{lt-ltb, le-ltb, le-leb, lt-leb, leb-true}
+use borrow.Author.Tests.{lt-ltb, le-ltb, le-leb, lt-leb, leb-true, ltb-true}
 use lib.Dec.{ltb, leb, eqb}
 use lib.ListN.{length, take, drop}
 use Rattle.sweep.specs.Workspace.{Space, state}
 use Rattle.sweep.specs.declared.Job.{Job}
 use Rattle.sweep.proofs.Workspace.{pattern-length}
-use Rattle.lengths.specs.Lengths.{different, climbed, triedFirst, firstLength, longest, left, partOf}
+use Rattle.lengths.specs.Lengths.{different, worthwhile, shortLength, climbed, triedFirst, firstLength, longest, left, partOf}
 use Rattle.lengths.proofs.Samples.{different-fits}
 
 -- A length that a pass may have, and a smaller one that is at least the minimum.
@@ -25,6 +25,59 @@ pub record Between (minimum s : ℕ) : Type 0 where
 pub record Next (minimum s r : ℕ) : Type 0 where
   pub least : minimum ≤ r
   pub less : r < s
+
+-- ---- doubling
+doubled : (n : ℕ) → 2 ^ (n + 1) ≡ 2 ^ n * 2
+doubled n = rw (add-one n) (pow-suc 2 n)
+
+powers : (n : ℕ) → n ≤ 3 → 2 ^ n ≤ 8
+powers zero h = omega (arith, pow-zero 2)
+powers (suc zero) h = omega arith
+powers (suc (suc zero)) h = omega arith
+powers (suc (suc (suc zero))) h = omega arith
+powers (suc (suc (suc (suc n)))) h = absurd (omega arith)
+
+-- ---- a short length
+pub pays-not : (ws : List ℕ) (b s : ℕ) → 8 < s → false ≡ worthwhile ws b s
+unfolding worthwhile
+pays-not ws b s h = rw (worthwhile, lt-leb s 8 h) refl
+
+pub pays-by : (ws : List ℕ) (b s d : ℕ) → s ≤ 8 → d ≡ different ws b s → leb 52 d ≡ worthwhile ws b s
+unfolding worthwhile
+pays-by ws b s d h e = rw (worthwhile, le-leb s 8 h, e) refl
+
+-- What is tried from s on, with so many tries left, is what was to be tried from the start.
+pub record Trying (ws : List ℕ) (b given i s : ℕ) : Type 0 where
+  pub short : length ws ≤ 2048
+  pub some : 1 ≤ s
+  pub small : s ≤ 4096 * 2 ^ i
+  pub same : shortLength ws b s (3 - i) ≡ shortLength ws b given 3
+
+pub trying-none : (ws : List ℕ) (b given : ℕ) → length ws ≤ 2048 → 1 ≤ given → given ≤ 4096 → Trying ws b given 0 given
+trying-none ws b given h o l = record { short = h; some = o; small = omega arith; same = refl }
+
+module _ (ws : List ℕ) (b given i s : ℕ) (c : Trying ws b given i s) where
+  pub trying-done : 3 ≤ i → 0 ≡ shortLength ws b given 3
+  unfolding shortLength
+  trying-done h = let e : 3 - i ≡ 0 = omega arith in rw e at (c .same)
+
+  module _ (more : i < 3) (x : Bool) (ex : x ≡ worthwhile ws b s) where
+    tried : shortLength ws b s (suc (3 - (i + 1))) ≡ shortLength ws b given 3
+    tried = let e : 3 - i ≡ suc (3 - (i + 1)) = omega arith in rw e at (c .same)
+
+    pub trying-found : x ≡ true → s ≡ shortLength ws b given 3
+    unfolding shortLength
+    trying-found h = let k : worthwhile ws b s ≡ true = sym ex ∙ h in let e : shortLength ws b s (suc (3 - (i + 1))) ≡ s = rw (shortLength, k) refl in sym e ∙ tried
+
+    pub trying-more : x ≡ false → Trying ws b given (i + 1) (s * 2)
+    unfolding shortLength
+    trying-more h =
+        let k : worthwhile ws b s ≡ false = sym ex ∙ h in
+        let e : shortLength ws b s (suc (3 - (i + 1))) ≡ shortLength ws b (s * 2) (3 - (i + 1)) = rw (shortLength, k) refl in
+        record { short = c .short; some = omega (arith, c .some); small = omega (arith, c .small, doubled i); same = sym e ∙ tried }
+
+  pub trying-room : i < 3 → s * 2 < 2 ^ 64
+  trying-room h = omega (arith, c .small, powers i (omega arith))
 
 -- ---- the first length
 -- One try.
@@ -78,19 +131,9 @@ module _ (ws : List ℕ) (b minimum given few i s before : ℕ) (c : Climbing ws
       climbing-more h =
           let k : leb (different ws b s) before ≡ false = rw (← ed) (lt-leb d before h) in
           record { within = omega arith; short = c .short; some = omega (arith, c .some); small = omega (arith, c .small, doubled i); same = ap (λ z. climbed ws b minimum (s * 2) z (3 - (i + 1))) ed ∙ (sym (try-more ws b minimum s before (3 - (i + 1)) not-many k) ∙ opened) }
-        where
-          doubled : (n : ℕ) → 2 ^ (n + 1) ≡ 2 ^ n * 2
-          doubled n = rw (add-one n) (pow-suc 2 n)
 
   pub climbing-room : s * 2 < 2 ^ 64
   climbing-room = omega (arith, c .small, powers i (c .within))
-    where
-      powers : (n : ℕ) → n ≤ 3 → 2 ^ n ≤ 8
-      powers zero h = omega (arith, pow-zero 2)
-      powers (suc zero) h = omega arith
-      powers (suc (suc zero)) h = omega arith
-      powers (suc (suc (suc zero))) h = omega arith
-      powers (suc (suc (suc (suc n)))) h = absurd (omega arith)
 
 module _ (j : Job) (ws : List ℕ) (b given : ℕ) (s : Space j ws) where
   words : take (j .n - 0) (drop 0 ws) ≡ state j ws .pattern
@@ -110,11 +153,24 @@ module _ (j : Job) (ws : List ℕ) (b given : ℕ) (s : Space j ws) where
         let k : leb 44 (different (state j ws .pattern) b (j .minimum)) ≡ true = rw (← counted) (le-leb 44 few h) in
         rw (firstLength, pattern-length j ws s, long, k) refl
 
-    pub first-climbed : few < 44 → (up low from r : ℕ) → up ≡ max given 20 → low ≡ min up 64 → from ≡ max (j .minimum) low → r ≡ climbed (take (j .n - 0) (drop 0 ws)) b from from few 3 → r ≡ firstLength (state j ws .pattern) b (j .minimum) given
-    unfolding firstLength
-    first-climbed h up low from r eu el ef w =
-        let k : leb 44 (different (state j ws .pattern) b (j .minimum)) ≡ false = rw (← counted) (lt-leb 44 few h) in
-        w ∙ rw (firstLength, pattern-length j ws s, long, k, words, ← counted, ef, el, eu) refl
+    module _ (low : few < 44) (two short : ℕ) (et : two ≡ 2 * j .minimum) (es : short ≡ shortLength (take (j .n - 0) (drop 0 ws)) b two 3) where
+      too-few : leb 44 (different (state j ws .pattern) b (j .minimum)) ≡ false
+      too-few = rw (← counted) (lt-leb 44 few low)
+
+      asked : short ≡ shortLength (state j ws .pattern) b (2 * j .minimum) 3
+      asked = es ∙ rw (words, et) refl
+
+      pub first-few : 0 < short → short ≡ firstLength (state j ws .pattern) b (j .minimum) given
+      unfolding firstLength
+      first-few h =
+          let k : ltb 0 (shortLength (state j ws .pattern) b (2 * j .minimum) 3) ≡ true = rw (← asked) (lt-ltb 0 short h) in
+          asked ∙ rw (firstLength, pattern-length j ws s, long, too-few, k) refl
+
+      pub first-climbed : short ≤ 0 → (up cut from r : ℕ) → up ≡ max given 20 → cut ≡ min up 64 → from ≡ max (j .minimum) cut → r ≡ climbed (take (j .n - 0) (drop 0 ws)) b from from few 3 → r ≡ firstLength (state j ws .pattern) b (j .minimum) given
+      unfolding firstLength
+      first-climbed h up cut from r eu el ef w =
+          let k : ltb 0 (shortLength (state j ws .pattern) b (2 * j .minimum) 3) ≡ false = rw (← asked) (le-ltb 0 short h) in
+          w ∙ rw (firstLength, pattern-length j ws s, long, too-few, k, words, ← counted, ef, el, eu) refl
 
 -- It is at least the minimum, and no longer than a sequence may be.
 between-least : (minimum : ℕ) → minimum ≤ 2048 → Between minimum minimum
@@ -131,15 +187,33 @@ climbed-between ws b first l h (suc n) s few g =
     go false e true later = between-least first h
     go false e false later = later
 
+pays-short : (ws : List ℕ) (b s : ℕ) → worthwhile ws b s ≡ true → s ≤ 8
+unfolding worthwhile
+pays-short ws b s = go (leb s 8) refl
+  where
+    go : (c : Bool) → leb s 8 ≡ c → (c && leb 52 (different ws b s)) ≡ true → s ≤ 8
+    go true e h = leb-true s 8 e
+    go false e h = absurd (let z : _≡_ {A = ℕ} 0 1 = cc in omega arith)
+
+short-between : (ws : List ℕ) (b minimum n s : ℕ) → minimum ≤ s → 0 < shortLength ws b s n → Between minimum (shortLength ws b s n)
+unfolding shortLength
+short-between ws b minimum zero s g h = absurd (omega arith)
+short-between ws b minimum (suc n) s g h = go (worthwhile ws b s) refl (short-between ws b minimum n (s * 2) (omega arith)) h
+  where
+    go : (c : Bool) → worthwhile ws b s ≡ c → (0 < shortLength ws b (s * 2) n → Between minimum (shortLength ws b (s * 2) n)) → 0 < elim c [ true ↦ s | false ↦ shortLength ws b (s * 2) n ] → Between minimum (elim c [ true ↦ s | false ↦ shortLength ws b (s * 2) n ])
+    go true e later h = record { least = g; most = omega (arith, pays-short ws b s e) }
+    go false e later h = later h
+
 pub first-between : (pattern : List ℕ) (b minimum given s : ℕ) → length pattern ≤ 2048 → minimum ≤ given → given ≤ 2048 → s ≡ firstLength pattern b minimum given → Between minimum s
 unfolding firstLength
 first-between pattern b minimum given s l h m e =
-    rw e (go (leb (length pattern) 256 || eqb (b % 2) 0) (leb 44 (different pattern b minimum)))
+    rw e (go (leb (length pattern) 256 || eqb (b % 2) 0) (leb 44 (different pattern b minimum)) (ltb 0 (shortLength pattern b (2 * minimum) 3)) refl)
   where
-    go : (c d : Bool) → Between minimum (elim c [ true ↦ minimum | false ↦ elim d [ true ↦ minimum | false ↦ climbed pattern b (triedFirst minimum given) (triedFirst minimum given) (different pattern b minimum) 3 ] ])
-    go true d = between-least minimum (omega arith)
-    go false true = between-least minimum (omega arith)
-    go false false =
+    go : (c d f : Bool) → ltb 0 (shortLength pattern b (2 * minimum) 3) ≡ f → Between minimum (elim c [ true ↦ minimum | false ↦ elim d [ true ↦ minimum | false ↦ elim f [ true ↦ shortLength pattern b (2 * minimum) 3 | false ↦ climbed pattern b (triedFirst minimum given) (triedFirst minimum given) (different pattern b minimum) 3 ] ] ])
+    go true d f k = between-least minimum (omega arith)
+    go false true f k = between-least minimum (omega arith)
+    go false false true k = short-between pattern b minimum 3 (2 * minimum) (omega arith) (ltb-true 0 (shortLength pattern b (2 * minimum) 3) k)
+    go false false false k =
         let c = climbed-between pattern b (triedFirst minimum given) l (omega arith) 3 (triedFirst minimum given) (different pattern b minimum) (omega arith) in
         record { least = omega (arith, c .least); most = c .most }
 

@@ -1,7 +1,7 @@
 -- Which search lengths the passes have. No reader of the engines' contracts needs these: any lengths would do.
 use Prim.Native.Nat.{ℕ, zero, suc, _+_, _-_, _*_, _/_, _%_, _<_, min, max}
 use mathlib.Core.Path.{_≡_}
-use mathlib.Core.Bool.{Bool, true, false, not, _||_}
+use mathlib.Core.Bool.{Bool, true, false, not, _&&_, _||_}
 use mathlib.Core.List.{List, [], _∷_}
 use lib.Dec.{leb, ltb, eqb}
 use lib.ListN.{length, take, drop, getD}
@@ -36,6 +36,15 @@ marks marked n = countBelow (λ k. not (eqb (getD marked k 0) 0)) n
 unfoldable pub different : List ℕ → ℕ → ℕ → ℕ
 different ws b s = elim (ltb (length ws) s) [ true ↦ 0 | false ↦ countBelow (λ k. someTaken ws b s ((length ws - s) / 64 + 1) k 0) 1024 ]
 
+-- A pass at s words, before the one at the minimum, pays: s is at most 8, and so many windows differ that there are few steps in vain.
+unfoldable pub worthwhile : List ℕ → ℕ → ℕ → Bool
+worthwhile ws b s = leb s 8 && leb 52 (different ws b s)
+
+-- The first of s, twice that, four times that, .. at which a pass pays, tried so many times; 0 where there is none.
+unfoldable pub shortLength : List ℕ → ℕ → ℕ → ℕ → ℕ
+shortLength ws b s zero = 0
+shortLength ws b s (suc n) = elim (worthwhile ws b s) [ true ↦ s | false ↦ shortLength ws b (s * 2) n ]
+
 -- A length from s on whose windows differ, tried so many times, doubled each time as long as more of them differ than did before. The first
 -- length that was tried where no more of them do; a quarter of the next one where there are no tries left.
 unfoldable pub climbed : List ℕ → ℕ → ℕ → ℕ → ℕ → ℕ → ℕ
@@ -49,11 +58,11 @@ abbrev pub triedFirst : ℕ → ℕ → ℕ
 triedFirst minimum given = max minimum (min (max given 20) 64)
 
 -- The first search length: the minimum where the pattern is short, or the multiplier even, so that a hash tells only of the last words of
--- a window, or where windows of the minimum length differ; else one from the first that is tried on.
+-- a window, or where windows of the minimum length differ; else a short one, if one pays, or one from the first that is tried on.
 unfoldable pub firstLength : List ℕ → ℕ → ℕ → ℕ → ℕ
 firstLength pattern b minimum given =
     elim (leb (length pattern) 256 || eqb (b % 2) 0)
-    [ true ↦ minimum | false ↦ elim (leb 44 (different pattern b minimum)) [ true ↦ minimum | false ↦ climbed pattern b (triedFirst minimum given) (triedFirst minimum given) (different pattern b minimum) 3 ] ]
+    [ true ↦ minimum | false ↦ elim (leb 44 (different pattern b minimum)) [ true ↦ minimum | false ↦ elim (ltb 0 (shortLength pattern b (2 * minimum) 3)) [ true ↦ shortLength pattern b (2 * minimum) 3 | false ↦ climbed pattern b (triedFirst minimum given) (triedFirst minimum given) (different pattern b minimum) 3 ] ] ]
 
 -- How many calls a list begins with, and the longest stretch of calls.
 abbrev pub longer : Bool → ℕ → ℕ

@@ -9,7 +9,7 @@ ghost use lib.ListN.{length, replicate};
 ghost use Rattle.symbol.specs.Word.{isCall};
 ghost use Rattle.tiling.specs.Tally.{one};
 ghost use Rattle.sweep.specs.Workspace.{Space, state};
-ghost use Rattle.lengths.specs.Lengths.{Marked, marks, different, climbed, firstLength, longer, longest, left, partOf};
+ghost use Rattle.lengths.specs.Lengths.{Marked, marks, different, worthwhile, shortLength, climbed, firstLength, longer, longest, left, partOf};
 
 // The larger of two lengths.
 fn larger(a: usize, b: usize) -> usize
@@ -73,6 +73,34 @@ fn differing(words: &[u32], b: u32, s: usize) -> usize
     count_marked(&marked)
 }
 
+// Whether a pass at s words, before the one at the minimum, pays: s is at most 8, and 52 of some 64 windows so long differ.
+fn pays(words: &[u32], b: u32, s: usize) -> bool
+    requires { ⌜ (1 ≤ s) × (length (now words) ≤ 2048) ⌝ }
+    ensures { λ r. ⌜ r ≡ worthwhile (now (words .entry)) b s ⌝ }
+{
+    if 8 < s {
+        return false;
+    }
+    52 <= differing(words, b, s)
+}
+
+// The first of s, twice and four times that at which a pass pays; 0 where there is none.
+fn short_length(words: &[u32], b: u32, s: usize) -> usize
+    requires { ⌜ (length (now words) ≤ 2048) × (1 ≤ s) × (s ≤ 4096) ⌝ }
+    ensures { λ r. ⌜ r ≡ shortLength (now (words .entry)) b s 3 ⌝ }
+{
+    let mut length = s;
+    let mut i = 0usize;
+    while i < 3 {
+        if pays(words, b, length) {
+            return length;
+        }
+        length *= 2;
+        i += 1;
+    }
+    0
+}
+
 // A length whose windows differ, from s on: s, or twice, or four times that, as long as more of them differ than did before. Where
 // no more of them do it is s: longer windows are alike as well. Where more do each time, but never enough, it is 2 s.
 fn climb(words: &[u32], b: u32, s: usize, few: usize) -> usize
@@ -98,8 +126,8 @@ fn climb(words: &[u32], b: u32, s: usize, few: usize) -> usize
 }
 
 // The search length of the first pass: the minimum, so that one pass is all; but where the pattern is long and windows so short
-// are too much alike, a length from the one that the pass was given on, but from 20 to 64. With an even multiplier longer windows are
-// as much alike: their hashes tell only of their last words.
+// are too much alike, a few words more, if that is enough; else a length from the one that the pass was given on, but from 20 to 64.
+// With an even multiplier longer windows are as much alike: their hashes tell only of their last words.
 pub fn first_length(ws: &[u32], pass: Pass) -> usize
     requires { ⌜ Space (pass .job) (now ws) × (1 ≤ pass .job .minimum) × (pass .job .minimum ≤ pass .s) × (pass .s ≤ 2048) ⌝ }
     ensures { λ r. ⌜ r ≡ firstLength (state (pass .job) (now (ws .entry)) .pattern) (pass .multiplier) (pass .job .minimum) (pass .s) ⌝ }
@@ -112,6 +140,10 @@ pub fn first_length(ws: &[u32], pass: Pass) -> usize
     let few = differing(&ws[0..n], pass.multiplier, minimum);
     if 44 <= few {
         return minimum;
+    }
+    let short = short_length(&ws[0..n], pass.multiplier, 2 * minimum);
+    if 0 < short {
+        return short;
     }
     let from = larger(minimum, sweep::lesser(larger(pass.s, 20), 64));
     climb(&ws[0..n], pass.multiplier, from, few)
