@@ -14,7 +14,7 @@ use lib.ListN.{length, take, drop}
 use Rattle.sweep.specs.Workspace.{Space, state}
 use Rattle.sweep.specs.declared.Job.{Job}
 use Rattle.sweep.proofs.Workspace.{pattern-length}
-use Rattle.lengths.specs.Lengths.{different, worthwhile, shortLength, climbed, triedFirst, firstLength, longest, left, partOf}
+use Rattle.lengths.specs.Lengths.{different, worthwhile, shortLength, climbed, triedFirst, longerLength, atOnce, enough, firstLength, longest, left, partOf}
 use Rattle.lengths.proofs.Samples.{different-fits}
 
 -- A length that a pass may have, and a smaller one that is at least the minimum.
@@ -135,42 +135,64 @@ module _ (ws : List ℕ) (b minimum given few i s before : ℕ) (c : Climbing ws
   pub climbing-room : s * 2 < 2 ^ 64
   climbing-room = omega (arith, c .small, powers i (c .within))
 
+module _ (ws : List ℕ) (b minimum given few short : ℕ) (es : short ≡ shortLength ws b (2 * minimum) 3) where
+  pub longer-short : 0 < short → short ≡ longerLength ws b minimum given few
+  unfolding longerLength
+  longer-short h =
+      let k : ltb 0 (shortLength ws b (2 * minimum) 3) ≡ true = rw (← es) (lt-ltb 0 short h) in
+      es ∙ rw (longerLength, k) refl
+
+  module _ (none : short ≤ 0) where
+    no-short : ltb 0 (shortLength ws b (2 * minimum) 3) ≡ false
+    no-short = rw (← es) (le-ltb 0 short none)
+
+    pub longer-none : length ws ≤ 256 → minimum ≡ longerLength ws b minimum given few
+    unfolding longerLength
+    longer-none h = rw (longerLength, no-short, le-leb (length ws) 256 h) refl
+
+    pub longer-climbed : 256 < length ws → (up cut from r : ℕ) → up ≡ max given 20 → cut ≡ min up 64 → from ≡ max minimum cut → r ≡ climbed ws b from from few 3 → r ≡ longerLength ws b minimum given few
+    unfolding longerLength
+    longer-climbed h up cut from r eu el ef w = w ∙ rw (longerLength, no-short, lt-leb (length ws) 256 h, ef, el, eu) refl
+
+-- How many are enough.
+pub enough-short : (n : ℕ) → n ≤ 256 → 12 ≡ enough n
+unfolding enough
+enough-short n h = rw (enough, le-leb n 256 h) refl
+
+pub enough-long : (n : ℕ) → 256 < n → 44 ≡ enough n
+unfolding enough
+enough-long n h = rw (enough, lt-leb n 256 h) refl
+
+pub at-once-is : (n minimum b : ℕ) → ((leb n 64 || (leb n 256 && ltb 2 minimum)) || eqb (b % 2) 0) ≡ atOnce n minimum b
+unfolding atOnce
+at-once-is n minimum b = refl
+
 module _ (j : Job) (ws : List ℕ) (b given : ℕ) (s : Space j ws) where
   words : take (j .n - 0) (drop 0 ws) ≡ state j ws .pattern
   words = let e : j .n - 0 ≡ j .n = omega arith in rw e refl
 
-  pub first-short : (leb (j .n) 256 || eqb (b % 2) 0) ≡ true → j .minimum ≡ firstLength (state j ws .pattern) b (j .minimum) given
+  pub first-short : (x : Bool) → x ≡ atOnce (j .n) (j .minimum) b → x ≡ true → j .minimum ≡ firstLength (state j ws .pattern) b (j .minimum) given
   unfolding firstLength
-  first-short h = rw (firstLength, pattern-length j ws s, h) refl
+  first-short x e h = let k : atOnce (j .n) (j .minimum) b ≡ true = sym e ∙ h in rw (firstLength, pattern-length j ws s, k) refl
 
-  module _ (long : (leb (j .n) 256 || eqb (b % 2) 0) ≡ false) (few : ℕ) (e : few ≡ different (take (j .n - 0) (drop 0 ws)) b (j .minimum)) where
+  module _ (x : Bool) (ex : x ≡ atOnce (j .n) (j .minimum) b) (long : x ≡ false) (few : ℕ) (e : few ≡ different (take (j .n - 0) (drop 0 ws)) b (j .minimum)) (wanted : ℕ) (ew : wanted ≡ enough (j .n)) where
+    not-short : atOnce (length (state j ws .pattern)) (j .minimum) b ≡ false
+    not-short = rw (pattern-length j ws s) (sym ex ∙ long)
+
     counted : few ≡ different (state j ws .pattern) b (j .minimum)
     counted = e ∙ rw words refl
 
-    pub first-many : 44 ≤ few → j .minimum ≡ firstLength (state j ws .pattern) b (j .minimum) given
+    pub first-many : wanted ≤ few → j .minimum ≡ firstLength (state j ws .pattern) b (j .minimum) given
     unfolding firstLength
     first-many h =
-        let k : leb 44 (different (state j ws .pattern) b (j .minimum)) ≡ true = rw (← counted) (le-leb 44 few h) in
-        rw (firstLength, pattern-length j ws s, long, k) refl
+        let k : leb (enough (length (state j ws .pattern))) (different (state j ws .pattern) b (j .minimum)) ≡ true = rw (pattern-length j ws s, ← counted, ← ew) (le-leb wanted few h) in
+        rw (firstLength, not-short, k) refl
 
-    module _ (low : few < 44) (two short : ℕ) (et : two ≡ 2 * j .minimum) (es : short ≡ shortLength (take (j .n - 0) (drop 0 ws)) b two 3) where
-      too-few : leb 44 (different (state j ws .pattern) b (j .minimum)) ≡ false
-      too-few = rw (← counted) (lt-leb 44 few low)
-
-      asked : short ≡ shortLength (state j ws .pattern) b (2 * j .minimum) 3
-      asked = es ∙ rw (words, et) refl
-
-      pub first-few : 0 < short → short ≡ firstLength (state j ws .pattern) b (j .minimum) given
-      unfolding firstLength
-      first-few h =
-          let k : ltb 0 (shortLength (state j ws .pattern) b (2 * j .minimum) 3) ≡ true = rw (← asked) (lt-ltb 0 short h) in
-          asked ∙ rw (firstLength, pattern-length j ws s, long, too-few, k) refl
-
-      pub first-climbed : short ≤ 0 → (up cut from r : ℕ) → up ≡ max given 20 → cut ≡ min up 64 → from ≡ max (j .minimum) cut → r ≡ climbed (take (j .n - 0) (drop 0 ws)) b from from few 3 → r ≡ firstLength (state j ws .pattern) b (j .minimum) given
-      unfolding firstLength
-      first-climbed h up cut from r eu el ef w =
-          let k : ltb 0 (shortLength (state j ws .pattern) b (2 * j .minimum) 3) ≡ false = rw (← asked) (le-ltb 0 short h) in
-          w ∙ rw (firstLength, pattern-length j ws s, long, too-few, k, words, ← counted, ef, el, eu) refl
+    pub first-longer : few < wanted → (r : ℕ) → r ≡ longerLength (take (j .n - 0) (drop 0 ws)) b (j .minimum) given few → r ≡ firstLength (state j ws .pattern) b (j .minimum) given
+    unfolding firstLength
+    first-longer h r w =
+        let k : leb (enough (length (state j ws .pattern))) (different (state j ws .pattern) b (j .minimum)) ≡ false = rw (pattern-length j ws s, ← counted, ← ew) (lt-leb wanted few h) in
+        w ∙ rw (firstLength, not-short, k, words, ← counted) refl
 
 -- It is at least the minimum, and no longer than a sequence may be.
 between-least : (minimum : ℕ) → minimum ≤ 2048 → Between minimum minimum
@@ -205,15 +227,16 @@ short-between ws b minimum (suc n) s g h = go (worthwhile ws b s) refl (short-be
     go false e later h = later h
 
 pub first-between : (pattern : List ℕ) (b minimum given s : ℕ) → length pattern ≤ 2048 → minimum ≤ given → given ≤ 2048 → s ≡ firstLength pattern b minimum given → Between minimum s
-unfolding firstLength
+unfolding firstLength longerLength
 first-between pattern b minimum given s l h m e =
-    rw e (go (leb (length pattern) 256 || eqb (b % 2) 0) (leb 44 (different pattern b minimum)) (ltb 0 (shortLength pattern b (2 * minimum) 3)) refl)
+    rw e (go (atOnce (length pattern) minimum b) (leb (enough (length pattern)) (different pattern b minimum)) (leb (length pattern) 256) (ltb 0 (shortLength pattern b (2 * minimum) 3)) refl)
   where
-    go : (c d f : Bool) → ltb 0 (shortLength pattern b (2 * minimum) 3) ≡ f → Between minimum (elim c [ true ↦ minimum | false ↦ elim d [ true ↦ minimum | false ↦ elim f [ true ↦ shortLength pattern b (2 * minimum) 3 | false ↦ climbed pattern b (triedFirst minimum given) (triedFirst minimum given) (different pattern b minimum) 3 ] ] ])
-    go true d f k = between-least minimum (omega arith)
-    go false true f k = between-least minimum (omega arith)
-    go false false true k = short-between pattern b minimum 3 (2 * minimum) (omega arith) (ltb-true 0 (shortLength pattern b (2 * minimum) 3) k)
-    go false false false k =
+    go : (c d f g : Bool) → ltb 0 (shortLength pattern b (2 * minimum) 3) ≡ g → Between minimum (elim c [ true ↦ minimum | false ↦ elim d [ true ↦ minimum | false ↦ elim g [ true ↦ shortLength pattern b (2 * minimum) 3 | false ↦ elim f [ true ↦ minimum | false ↦ climbed pattern b (triedFirst minimum given) (triedFirst minimum given) (different pattern b minimum) 3 ] ] ] ])
+    go true d f g k = between-least minimum (omega arith)
+    go false true f g k = between-least minimum (omega arith)
+    go false false f true k = short-between pattern b minimum 3 (2 * minimum) (omega arith) (ltb-true 0 (shortLength pattern b (2 * minimum) 3) k)
+    go false false true false k = between-least minimum (omega arith)
+    go false false false false k =
         let c = climbed-between pattern b (triedFirst minimum given) l (omega arith) 3 (triedFirst minimum given) (different pattern b minimum) (omega arith) in
         record { least = omega (arith, c .least); most = c .most }
 

@@ -1,7 +1,7 @@
 -- Some windows, marked by their places from the last to the first and then counted.
 -- Assumes nothing.
-use Prim.Native.Nat.{ℕ, zero, suc, _+_, _-_, _*_, _/_, _^_, _≤_, _<_}
-use native.Mathlib.Nat.{le-div-iff-mul-le, div-le-self}
+use Prim.Native.Nat.{ℕ, zero, suc, _+_, _-_, _*_, _/_, _^_, _≤_, _<_, min, max}
+use native.Mathlib.Nat.{le-div-iff-mul-le}
 use native.Mathlib.Decide.{decLt, ℕ-discrete}
 use native.Mathlib.Numerals.{add-one}
 use native.Mathlib.Omega.{arith}
@@ -16,7 +16,7 @@ use Rattle.tiling.specs.Tally.{one}
 use Rattle.window.specs.Hash.{wordsHash}
 use Rattle.index.proofs.First.{some-none, some-here, some-later}
 use Rattle.index.specs.Indexed.{place}
-use Rattle.lengths.specs.Lengths.{taken, someTaken, countBelow, Marked, marks, different}
+use Rattle.lengths.specs.Lengths.{taken, samples, someTaken, countBelow, Marked, marks, different}
 
 -- ---- marking
 pub record Marking (ws : List ℕ) (b s step : ℕ) (marked : List ℕ) (i : ℕ) : Type 0 where
@@ -24,18 +24,18 @@ pub record Marking (ws : List ℕ) (b s step : ℕ) (marked : List ℕ) (i : ℕ
   pub long : 1 ≤ s
   pub fits : s ≤ length ws
   pub short : length ws ≤ 2048
-  pub within : i ≤ (length ws - s) / step + 1
+  pub within : i ≤ samples ws s step
   pub entries : (k : ℕ) → k < 1024 → getD marked k 0 ≡ one (someTaken ws b s step k i)
 
-pub marking-none : (ws : List ℕ) (b s step : ℕ) (marked : List ℕ) → 1 ≤ step → 1 ≤ s → s ≤ length ws → length ws ≤ 2048 → marked ≡ replicate 1024 0 → Marking ws b s step marked ((length ws - s) / step + 1)
-marking-none ws b s step marked h o f l e =
+pub marking-none : (ws : List ℕ) (b s step : ℕ) (marked : List ℕ) → 1 ≤ step → 1 ≤ s → s ≤ length ws → length ws ≤ 2048 → marked ≡ replicate 1024 0 → (r : ℕ) → r ≡ min ((length ws - s) / step) 63 → Marking ws b s step marked (r + 1)
+marking-none ws b s step marked h o f l e r er =
     record {
       some = h;
       long = o;
       fits = f;
       short = l;
-      within = omega arith;
-      entries = λ k m. rw (some-none (taken ws b s step k) ((length ws - s) / step + 1), e) (getD-replicate {A = ℕ} 1024 k 0 0 m);
+      within = omega (arith, er);
+      entries = λ k m. rw (er, some-none (taken ws b s step k) (samples ws s step), e) (getD-replicate {A = ℕ} 1024 k 0 0 m);
     }
 
 module _ (ws : List ℕ) (b s step : ℕ) (marked : List ℕ) (i : ℕ) (m : Marking ws b s step marked i) (above : 0 < i) where
@@ -60,15 +60,15 @@ module _ (ws : List ℕ) (b s step : ℕ) (marked : List ℕ) (i : ℕ) (m : Mar
   back : i - 1 + 1 ≡ i
   back = omega arith
 
-  small : (length ws - s) / step + 1 ≤ 2048
-  small = omega (arith, div-le-self (length ws - s) step, m .short, m .long)
+  small : samples ws s step ≤ 2048
+  small = omega arith
 
   pub marking-more : (at h k : ℕ) (marked' : List ℕ) → at ≡ (i - 1) * step → h ≡ wordsHash b (take (at + s - at) (drop at ws)) → k ≡ place h → marked' ≡ set marked k 1 → getD marked' k 0 ≡ 1 → Marking ws b s step marked' (i - 1)
   marking-more at h k marked' ea eh ek w here =
       record { some = m .some; long = m .long; fits = m .fits; short = m .short; within = omega (arith, m .within); entries = λ c l. entries c l (ℕ-discrete c k) }
     where
       count : ℕ
-      count = (length ws - s) / step + 1
+      count = samples ws s step
 
       there : place (wordsHash b (take s (drop ((i - 1) * step) ws))) ≡ k
       there = let z : at + s - at ≡ s = omega arith in sym (ek ∙ ap place (eh ∙ rw (z, ea) refl))
@@ -78,9 +78,6 @@ module _ (ws : List ℕ) (b s step : ℕ) (marked : List ℕ) (i : ℕ) (m : Mar
       entries c l (no d) =
           rw (some-later (taken ws b s step c) (i - 1) count (omega (arith, m .within)) (ne-eqb _ c (λ z. d (sym z ∙ there))), back, w)
           (getD-set-other marked k c 1 0 d ∙ m .entries c l)
-
-pub marking-step : (ws : List ℕ) (s step : ℕ) → length ws ≤ 2048 → (length ws - s) / step + 1 < 2 ^ 64
-marking-step ws s step h = omega (arith, div-le-self (length ws - s) step)
 
 pub marking-all : (ws : List ℕ) (b s step : ℕ) (marked : List ℕ) (i : ℕ) → Marking ws b s step marked i → i ≤ 0 → Marked ws b s step marked
 marking-all ws b s step marked i m z = let e : i ≡ 0 = omega arith in record { entries = rw e at (m .entries) }
@@ -138,12 +135,12 @@ pub different-none : (ws : List ℕ) (b s : ℕ) → length ws < s → 0 ≡ dif
 unfolding different
 different-none ws b s h = rw (different, lt-ltb (length ws) s h) refl
 
-pub different-counted : (ws : List ℕ) (b s : ℕ) (marked : List ℕ) (r : ℕ) → s ≤ length ws → Marked ws b s ((length ws - s) / 64 + 1) marked → r ≡ marks marked 1024 → r ≡ different ws b s
+pub different-counted : (ws : List ℕ) (b s step : ℕ) (marked : List ℕ) (r : ℕ) → s ≤ length ws → step ≡ max 1 ((length ws - s) / 64) → Marked ws b s step marked → r ≡ marks marked 1024 → r ≡ different ws b s
 unfolding different
-different-counted ws b s marked r h m e =
+different-counted ws b s step marked r h es m e =
     e
-    ∙ (count-same (λ k. not (eqb (getD marked k 0) 0)) (λ k. someTaken ws b s ((length ws - s) / 64 + 1) k 0) 1024 (λ k l. rw (m .entries k l) (bit-some (someTaken ws b s ((length ws - s) / 64 + 1) k 0)))
-    ∙ rw (different, le-ltb (length ws) s h) refl)
+    ∙ (count-same (λ k. not (eqb (getD marked k 0) 0)) (λ k. someTaken ws b s step k 0) 1024 (λ k l. rw (m .entries k l) (bit-some (someTaken ws b s step k 0)))
+    ∙ rw (different, le-ltb (length ws) s h, es) refl)
 
 -- Where some differ, one fits.
 pub different-fits : (ws : List ℕ) (b s : ℕ) → 1 ≤ different ws b s → s ≤ length ws

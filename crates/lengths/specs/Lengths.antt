@@ -15,9 +15,13 @@ use Rattle.index.specs.Built.{someOf}
 abbrev pub taken : List ℕ → ℕ → ℕ → ℕ → ℕ → ℕ → Bool
 taken ws b s step k i = eqb (place (wordsHash b (take s (drop (i * step) ws)))) k
 
+-- How many are taken: 64 at the most.
+abbrev pub samples : List ℕ → ℕ → ℕ → ℕ
+samples ws s step = min ((length ws - s) / step) 63 + 1
+
 -- One of them has it, from the i-th on.
 abbrev pub someTaken : List ℕ → ℕ → ℕ → ℕ → ℕ → ℕ → Bool
-someTaken ws b s step k i = someOf (taken ws b s step k) i ((length ws - s) / step + 1 - i)
+someTaken ws b s step k i = someOf (taken ws b s step k) i (samples ws s step - i)
 
 -- How many of the numbers below n pass a test.
 unfoldable pub countBelow : (ℕ → Bool) → ℕ → ℕ
@@ -32,9 +36,9 @@ pub record Marked (ws : List ℕ) (b s step : ℕ) (marked : List ℕ) : Type 0 
 abbrev pub marks : List ℕ → ℕ → ℕ
 marks marked n = countBelow (λ k. not (eqb (getD marked k 0) 0)) n
 
--- How many different places some 64 windows of s words have.
+-- How many different places 64 windows of s words have, or as many as there are.
 unfoldable pub different : List ℕ → ℕ → ℕ → ℕ
-different ws b s = elim (ltb (length ws) s) [ true ↦ 0 | false ↦ countBelow (λ k. someTaken ws b s ((length ws - s) / 64 + 1) k 0) 1024 ]
+different ws b s = elim (ltb (length ws) s) [ true ↦ 0 | false ↦ countBelow (λ k. someTaken ws b s (max 1 ((length ws - s) / 64)) k 0) 1024 ]
 
 -- A pass at s words, before the one at the minimum, pays: s is at most 8, and so many windows differ that there are few steps in vain.
 unfoldable pub worthwhile : List ℕ → ℕ → ℕ → Bool
@@ -57,12 +61,27 @@ climbed ws b first s few (suc n) =
 abbrev pub triedFirst : ℕ → ℕ → ℕ
 triedFirst minimum given = max minimum (min (max given 20) 64)
 
--- The first search length: the minimum where the pattern is short, or the multiplier even, so that a hash tells only of the last words of
--- a window, or where windows of the minimum length differ; else a short one, if one pays, or one from the first that is tried on.
+-- A length to begin with where windows of the minimum length are too much alike: a short one, if one pays; else the minimum in a short
+-- pattern, and in a longer one a length from the first that is tried on.
+unfoldable pub longerLength : List ℕ → ℕ → ℕ → ℕ → ℕ → ℕ
+longerLength ws b minimum given few =
+    elim (ltb 0 (shortLength ws b (2 * minimum) 3))
+    [ true ↦ shortLength ws b (2 * minimum) 3 | false ↦ elim (leb (length ws) 256) [ true ↦ minimum | false ↦ climbed ws b (triedFirst minimum given) (triedFirst minimum given) few 3 ] ]
+
+-- One pass, at the minimum, is made without a look at the windows: the pattern is short, or the multiplier even, so that a hash tells only
+-- of the last words of a window.
+unfoldable pub atOnce : ℕ → ℕ → ℕ → Bool
+atOnce n minimum b = (leb n 64 || (leb n 256 && ltb 2 minimum)) || eqb (b % 2) 0
+
+-- So many windows of the minimum length must differ for one pass.
+unfoldable pub enough : ℕ → ℕ
+enough n = elim (leb n 256) [ true ↦ 12 | false ↦ 44 ]
+
+-- The first search length: the minimum, unless windows so short are too much alike.
 unfoldable pub firstLength : List ℕ → ℕ → ℕ → ℕ → ℕ
 firstLength pattern b minimum given =
-    elim (leb (length pattern) 256 || eqb (b % 2) 0)
-    [ true ↦ minimum | false ↦ elim (leb 44 (different pattern b minimum)) [ true ↦ minimum | false ↦ elim (ltb 0 (shortLength pattern b (2 * minimum) 3)) [ true ↦ shortLength pattern b (2 * minimum) 3 | false ↦ climbed pattern b (triedFirst minimum given) (triedFirst minimum given) (different pattern b minimum) 3 ] ] ]
+    elim (atOnce (length pattern) minimum b)
+    [ true ↦ minimum | false ↦ elim (leb (enough (length pattern)) (different pattern b minimum)) [ true ↦ minimum | false ↦ longerLength pattern b minimum given (different pattern b minimum) ] ]
 
 -- How many calls a list begins with, and the longest stretch of calls.
 abbrev pub longer : Bool → ℕ → ℕ

@@ -9,7 +9,7 @@ ghost use lib.ListN.{length, replicate};
 ghost use Rattle.symbol.specs.Word.{isCall};
 ghost use Rattle.tiling.specs.Tally.{one};
 ghost use Rattle.sweep.specs.Workspace.{Space, state};
-ghost use Rattle.lengths.specs.Lengths.{Marked, marks, different, worthwhile, shortLength, climbed, firstLength, longer, longest, left, partOf};
+ghost use Rattle.lengths.specs.Lengths.{Marked, marks, different, worthwhile, shortLength, climbed, longerLength, atOnce, enough, firstLength, longer, longest, left, partOf};
 
 // The larger of two lengths.
 fn larger(a: usize, b: usize) -> usize
@@ -21,12 +21,12 @@ fn larger(a: usize, b: usize) -> usize
     a
 }
 
-// Marks the places of every step-th window of s words, from the last to the first.
+// Marks the places of every step-th window of s words, of 64 at the most, from the last to the first.
 fn mark_windows(words: &[u32], b: u32, s: usize, step: usize, marked: &mut [u32; 1024])
     requires { ⌜ (1 ≤ step) × (1 ≤ s) × (s ≤ length (now words)) × (length (now words) ≤ 2048) × (now marked ≡ replicate 1024 0) ⌝ }
     ensures { λ r. ⌜ Marked (now (words .entry)) b s step (now (marked .exit)) ⌝ }
 {
-    let mut i = (words.len() - s) / step + 1;
+    let mut i = sweep::lesser((words.len() - s) / step, 63) + 1;
     while 0 < i {
         i -= 1;
         let at = i * step;
@@ -59,7 +59,7 @@ fn count_marked(marked: &[u32; 1024]) -> usize
     count
 }
 
-// How many different places some 64 windows of s words have, taken at equal distances; 0 where no window fits.
+// How many different places 64 windows of s words have, taken at equal distances, or as many as there are; 0 where no window fits.
 fn differing(words: &[u32], b: u32, s: usize) -> usize
     requires { ⌜ (1 ≤ s) × (length (now words) ≤ 2048) ⌝ }
     ensures { λ r. ⌜ r ≡ different (now (words .entry)) b s ⌝ }
@@ -68,12 +68,12 @@ fn differing(words: &[u32], b: u32, s: usize) -> usize
         return 0;
     }
     let mut marked = [0u32; 1024];
-    let step = (words.len() - s) / 64 + 1;
+    let step = larger(1, (words.len() - s) / 64);
     mark_windows(words, b, s, step, &mut marked);
     count_marked(&marked)
 }
 
-// Whether a pass at s words, before the one at the minimum, pays: s is at most 8, and 52 of some 64 windows so long differ.
+// Whether a pass at s words, before the one at the minimum, pays: s is at most 8, and 52 of 64 windows so long differ.
 fn pays(words: &[u32], b: u32, s: usize) -> bool
     requires { ⌜ (1 ≤ s) × (length (now words) ≤ 2048) ⌝ }
     ensures { λ r. ⌜ r ≡ worthwhile (now (words .entry)) b s ⌝ }
@@ -125,28 +125,60 @@ fn climb(words: &[u32], b: u32, s: usize, few: usize) -> usize
     larger(s, sweep::lesser(length / 4, 2048))
 }
 
-// The search length of the first pass: the minimum, so that one pass is all; but where the pattern is long and windows so short
-// are too much alike, a few words more, if that is enough; else a length from the one that the pass was given on, but from 20 to 64.
-// With an even multiplier longer windows are as much alike: their hashes tell only of their last words.
+// A length to begin with where windows of the minimum length are too much alike: a few words more, if that is enough; else the
+// minimum for a short pattern, and for a longer one a length from the one given on, but from 20 to 64.
+fn longer_length(words: &[u32], b: u32, minimum: usize, given: usize, few: usize) -> usize
+    requires { ⌜ (length (now words) ≤ 2048) × (1 ≤ minimum) × (minimum ≤ 2048) ⌝ }
+    ensures { λ r. ⌜ r ≡ longerLength (now (words .entry)) b minimum given few ⌝ }
+{
+    let short = short_length(words, b, 2 * minimum);
+    if 0 < short {
+        return short;
+    }
+    if words.len() <= 256 {
+        return minimum;
+    }
+    climb(
+        words,
+        b,
+        larger(minimum, sweep::lesser(larger(given, 20), 64)),
+        few,
+    )
+}
+
+// Whether one pass, at the minimum, is made without a look at the windows: the pattern is short, or the multiplier even. Then
+// longer windows are as much alike: their hashes tell only of their last words.
+fn at_once(n: usize, minimum: usize, b: u32) -> bool
+    ensures { λ r. ⌜ r ≡ atOnce n minimum b ⌝ }
+{
+    (n <= 64) | ((n <= 256) & (2 < minimum)) | (b % 2 == 0)
+}
+
+// How many windows of the minimum length must differ for one pass in a pattern of n words: in a short one there are fewer of a kind.
+fn enough_of(n: usize) -> usize
+    ensures { λ r. ⌜ r ≡ enough n ⌝ }
+{
+    if n <= 256 {
+        return 12;
+    }
+    44
+}
+
+// The search length of the first pass: the minimum, so that one pass is all, unless windows so short are too much alike.
 pub fn first_length(ws: &[u32], pass: Pass) -> usize
     requires { ⌜ Space (pass .job) (now ws) × (1 ≤ pass .job .minimum) × (pass .job .minimum ≤ pass .s) × (pass .s ≤ 2048) ⌝ }
     ensures { λ r. ⌜ r ≡ firstLength (state (pass .job) (now (ws .entry)) .pattern) (pass .multiplier) (pass .job .minimum) (pass .s) ⌝ }
 {
     let n = pass.job.n;
     let minimum = pass.job.minimum;
-    if (n <= 256) | (pass.multiplier % 2 == 0) {
+    if at_once(n, minimum, pass.multiplier) {
         return minimum;
     }
     let few = differing(&ws[0..n], pass.multiplier, minimum);
-    if 44 <= few {
+    if enough_of(n) <= few {
         return minimum;
     }
-    let short = short_length(&ws[0..n], pass.multiplier, 2 * minimum);
-    if 0 < short {
-        return short;
-    }
-    let from = larger(minimum, sweep::lesser(larger(pass.s, 20), 64));
-    climb(&ws[0..n], pass.multiplier, from, few)
+    longer_length(&ws[0..n], pass.multiplier, minimum, pass.s, few)
 }
 
 // One more than the stretch after a call, and 0 where the word is no call.

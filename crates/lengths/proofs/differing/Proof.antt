@@ -8,11 +8,11 @@ use Rattle.lengths.proofs.differing.Tie as tie
 returns : tie.Need-returns
 returns c = search different-none
 
-sub-step : tie.Need-sub-step
-sub-step c = search needs
+sub-larger : tie.Need-sub-larger
+sub-larger c = search needs
 
-add-step : tie.Need-add-step
-add-step c = search needs
+larger-requires : tie.Need-larger-requires
+larger-requires c κs = search needs
 
 mark-windows-requires : tie.Need-mark-windows-requires
 mark-windows-requires c κs = search needs
@@ -26,4 +26,10 @@ returns-2 c = search different-counted
 pub differing-spec : {M : Type 1} → statement M
 differing-spec =
     tie.close
-    (tie.spec returns sub-step add-step mark-windows-requires count-marked-requires returns-2)
+    (tie.spec
+    returns
+    sub-larger
+    larger-requires
+    mark-windows-requires
+    count-marked-requires
+    returns-2)

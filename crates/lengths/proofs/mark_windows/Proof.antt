@@ -1,6 +1,6 @@
 -- `lengths::mark_windows` meets its contract: at the head of each turn the places of the windows from the i-th on are marked.
 -- Assumes nothing.
-use Rattle.lengths.proofs.Samples.{Marking, marking-none, marking-step, marking-room, marking-end, marking-bytes, marking-part, marking-more, marking-all}
+use Rattle.lengths.proofs.Samples.{Marking, marking-none, marking-room, marking-end, marking-bytes, marking-part, marking-more, marking-all}
 use borrow.Author.Needs.{needs}
 use Rattle.lengths.proofs.mark_windows.Statement.{statement}
 use Rattle.lengths.proofs.mark_windows.Tie as tie
@@ -11,20 +11,23 @@ Inv-loop words b s step marked₀ i₀ marked i = Marking words b s step marked 
 abbrev μ-loop : tie.MeasureT-loop
 μ-loop words b s step marked₀ i₀ marked i = i
 
-sub-i : tie.Need-sub-i Inv-loop μ-loop
-sub-i c = search needs
+sub-lesser : tie.Need-sub-lesser Inv-loop μ-loop
+sub-lesser c = search needs
 
-div-i : tie.Need-div-i Inv-loop μ-loop
-div-i c = search needs
+div-lesser : tie.Need-div-lesser Inv-loop μ-loop
+div-lesser c = search needs
+
+lesser-requires : tie.Need-lesser-requires Inv-loop μ-loop
+lesser-requires c κs = search needs
 
 add-i : tie.Need-add-i Inv-loop μ-loop
-add-i c = search marking-step
+add-i c = search needs
 
 loop-holds : tie.Need-loop-holds Inv-loop μ-loop
 loop-holds c = search marking-none
 
-sub-i-2 : tie.Need-sub-i-2 Inv-loop μ-loop
-sub-i-2 c = search needs
+sub-i : tie.Need-sub-i Inv-loop μ-loop
+sub-i c = search needs
 
 mul-at : tie.Need-mul-at Inv-loop μ-loop
 mul-at c = search marking-room
@@ -68,11 +71,12 @@ mark-windows-spec =
     (tie.spec
     Inv-loop
     μ-loop
-    sub-i
-    div-i
+    sub-lesser
+    div-lesser
+    lesser-requires
     add-i
     loop-holds
-    sub-i-2
+    sub-i
     mul-at
     add-end
     mul-hash-of
