@@ -1,8 +1,18 @@
-// Writing into a lent buffer.
+// Writing into a lent buffer, and the smaller of two lengths.
 ghost use mathlib.Core.Path.{_≡_};
-ghost use Prim.Native.Nat.{_≤_, _<_};
+ghost use Prim.Native.Nat.{_≤_, _<_, min};
 ghost use lib.ListN.{length, set};
 ghost use Rattle.buffer.specs.Buffer.{onto};
+
+// The smaller of two lengths.
+pub fn lesser(a: usize, b: usize) -> usize
+    ensures { λ r. ⌜ r ≡ min a b ⌝ }
+{
+    if b < a {
+        return b;
+    }
+    a
+}
 
 // Stores one word.
 pub fn put(buffer: &mut [u32], at: usize, word: u32)

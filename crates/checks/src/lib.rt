@@ -67,22 +67,12 @@ pub fn settings_refusal(minimum: u32, buckets: u32, start: u32) -> u32
     0
 }
 
-// The shorter of two lengths.
-fn smaller(a: usize, b: usize) -> usize
-    ensures { λ r. ⌜ r ≡ min a b ⌝ }
-{
-    if b < a {
-        return b;
-    }
-    a
-}
-
 // How many tiles there can be: the shorter length divided by the minimum, rounded down.
 fn most_tiles(n: usize, m: usize, minimum: usize) -> usize
     requires { ⌜ (n ≤ 2048) × (m ≤ 2048) × (1 ≤ minimum) ⌝ }
     ensures { λ r. ⌜ (r ≡ min n m / minimum) × (r ≤ 2048) ⌝ }
 {
-    smaller(n, m) / minimum
+    buffer::lesser(n, m) / minimum
 }
 
 // The checks of the room: 6 for a workspace too short, 7 for a tile buffer too short.

@@ -1,23 +1,15 @@
 -- The two ends of a comparison: what it starts from, and what it answers. No reader of the engines' contracts needs these.
 use Prim.Native.Nat.{ℕ, _+_}
-use mathlib.Core.Bool.{true, false}
 use mathlib.Core.Path.{_≡_}
 use mathlib.Core.List.{List, _++_, map}
 use lib.ListN.{length, replicate}
 use Rattle.symbol.specs.Word.{replaced}
 use Rattle.buffer.specs.Buffer.{onto}
-use Rattle.tiling.specs.Choice.{firstIsPattern}
+use Rattle.tiling.specs.Choice.{firstIsPattern, patternOf, textOf}
 use Rattle.tiling.specs.Listing.{score}
 use Rattle.tiling.specs.declared.Compared.{Compared}
 use Rattle.sweep.specs.declared.Job.{Job}
 use Rattle.sweep.specs.declared.Totals.{Totals}
-
--- The pattern and the text of two sequences.
-unfoldable pub patternOf : List ℕ → List ℕ → List ℕ
-patternOf first second = elim (firstIsPattern first second) [ true ↦ first | false ↦ second ]
-
-unfoldable pub textOf : List ℕ → List ℕ → List ℕ
-textOf first second = elim (firstIsPattern first second) [ true ↦ second | false ↦ first ]
 
 -- The job of two sequences at a minimum.
 abbrev pub jobOf : List ℕ → List ℕ → ℕ → Job

@@ -26,7 +26,7 @@ fn mark_windows(words: &[u32], b: u32, s: usize, step: usize, marked: &mut [u32;
     requires { ⌜ (1 ≤ step) × (1 ≤ s) × (s ≤ length (now words)) × (length (now words) ≤ 2048) × (now marked ≡ replicate 1024 0) ⌝ }
     ensures { λ r. ⌜ Marked (now (words .entry)) b s step (now (marked .exit)) ⌝ }
 {
-    let mut i = sweep::lesser((words.len() - s) / step, 63) + 1;
+    let mut i = buffer::lesser((words.len() - s) / step, 63) + 1;
     while 0 < i {
         i -= 1;
         let at = i * step;
@@ -122,7 +122,7 @@ fn climb(words: &[u32], b: u32, s: usize, few: usize) -> usize
         length *= 2;
         i += 1;
     }
-    larger(s, sweep::lesser(length / 4, 2048))
+    larger(s, buffer::lesser(length / 4, 2048))
 }
 
 // A length to begin with where windows of the minimum length are too much alike: a few words more, if that is enough; else the
@@ -141,7 +141,7 @@ fn longer_length(words: &[u32], b: u32, minimum: usize, given: usize, few: usize
     climb(
         words,
         b,
-        larger(minimum, sweep::lesser(larger(given, 20), 64)),
+        larger(minimum, buffer::lesser(larger(given, 20), 64)),
         few,
     )
 }
@@ -237,5 +237,5 @@ pub fn next_length(pass: Pass, stretch: usize, covered: usize) -> usize
     ensures { λ r. ⌜ r ≡ max (pass .job .minimum) (min (partOf (pass .s) covered (pass .job .n)) stretch) ⌝ }
 {
     let part = part_of(pass.s, covered, pass.job.n);
-    larger(pass.job.minimum, sweep::lesser(part, stretch))
+    larger(pass.job.minimum, buffer::lesser(part, stretch))
 }

@@ -104,7 +104,7 @@ pub fn lay_levels(
     while pass.s <= level {
         let round = Round { level, totals: sum };
         sum = sweep_rows(ws, pass, heads, last, blocks, tiles, round);
-        level = sweep::lesser(level - 1, sweep::top(blocks));
+        level = buffer::lesser(level - 1, sweep::top(blocks));
     }
     sum
 }

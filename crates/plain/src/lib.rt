@@ -53,7 +53,7 @@ fn row_search(pattern: &[u32], text: &[u32], floor: usize) -> Found
         let far = found.len;
         let at = next_pair(text, TextAt(t), ended, far, pattern[ended], pattern[far]).0;
         let len = measure::measured_run(pattern, &text[at..], far);
-        ended = sweep::lesser(len, far);
+        ended = buffer::lesser(len, far);
         found = sweep::keep(found, TextAt(at), len);
         t = at + 1 + sweep::passed_over(again, len);
     }
@@ -67,7 +67,7 @@ fn search_row(ws: &[u32], job: Job, p: PatternAt, floor: usize, cap: usize) -> F
 {
     let from = p.0;
     let n = job.n;
-    let to = from + sweep::lesser(cap, n - from);
+    let to = from + buffer::lesser(cap, n - from);
     let end = n + job.m;
     row_search(&ws[from..to], &ws[n..end], floor)
 }
@@ -267,7 +267,7 @@ fn lay_all(
     while job.minimum <= level {
         let round = Round { level, totals: sum };
         sum = sweep_rows(ws, job, last, blocks, tiles, round);
-        level = sweep::lesser(level - 1, sweep::top(blocks));
+        level = buffer::lesser(level - 1, sweep::top(blocks));
     }
     sum
 }

@@ -81,7 +81,7 @@ fn after_run(walk: Walk, t: TextAt, len: usize) -> Walk
 {
     Walk {
         found: sweep::keep(walk.found, t, len),
-        ended: sweep::lesser(len, walk.found.len),
+        ended: buffer::lesser(len, walk.found.len),
         again: walk.again,
         past: t.0 + 1 + sweep::passed_over(walk.again, len),
     }

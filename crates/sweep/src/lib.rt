@@ -98,16 +98,6 @@ fn larger(a: u32, b: u32) -> u32
     a
 }
 
-// The smaller of two numbers.
-pub fn lesser(a: usize, b: usize) -> usize
-    ensures { λ r. ⌜ r ≡ min a b ⌝ }
-{
-    if b < a {
-        return b;
-    }
-    a
-}
-
 // The greatest bound of the rows from `from` up to `to`.
 fn greatest_bound(ws: &[u32], job: Job, from: usize, to: usize) -> u32
     requires { ⌜ Space job (now ws) × (from ≤ to) × (to ≤ job .n) ⌝ }
@@ -133,7 +123,7 @@ fn set_block(ws: &[u32], job: Job, blocks: &mut [u32; 64], b: usize)
     ensures { λ r. ⌜ BlockSet job (now (ws .entry)) b (now (blocks .entry)) (now (blocks .exit)) ⌝ }
 {
     let from = 32 * b;
-    let to = lesser(from + 32, job.n);
+    let to = buffer::lesser(from + 32, job.n);
     let most = greatest_bound(ws, job, from, to);
     store(blocks, b, most);
 }
@@ -156,7 +146,7 @@ pub fn refresh(ws: &[u32], job: Job, blocks: &mut [u32; 64], p: PatternAt, rows:
     ensures { λ r. ⌜ Refreshed job (now (ws .entry)) (p .0 / 32) ((p .0 + min rows (job .n - p .0) + 31) / 32) (now (blocks .entry)) (now (blocks .exit)) ⌝ }
 {
     let from = p.0;
-    let to = from + lesser(rows, job.n - from);
+    let to = from + buffer::lesser(rows, job.n - from);
     set_blocks(ws, job, blocks, from / 32, (to + 31) / 32);
 }
 
@@ -204,7 +194,7 @@ pub fn next_row(
 {
     let mut p = from.0;
     while p < job.n && bound_of(ws, job, PatternAt(p)) != level {
-        p = lesser(row_after(blocks, level, p), job.n);
+        p = buffer::lesser(row_after(blocks, level, p), job.n);
     }
     PatternAt(p)
 }
@@ -272,7 +262,7 @@ pub fn free_words(ws: &[u32], job: Job, p: PatternAt, cap: usize) -> usize
 {
     let from = p.0;
     let n = job.n;
-    let len = lesser(cap, n - from);
+    let len = buffer::lesser(cap, n - from);
     let last = from + (len - 1);
     if symbol::is_call(ws[last]) {
         return len;
@@ -308,7 +298,7 @@ pub fn one_before(t: TextAt, m: usize) -> TextAt
     if t.0 == 0 {
         return TextAt(m);
     }
-    TextAt(lesser(t.0 - 1, m))
+    TextAt(buffer::lesser(t.0 - 1, m))
 }
 
 // Whether a bound is taken over from the row after, without a search: where the run found there began at the text's beginning,

@@ -22,6 +22,13 @@ firstIsPattern first second =
     elim (eqb (length first) (length second))
     [ true ↦ firstByWords first second | false ↦ ltb (length first) (length second) ]
 
+-- The pattern and the text of two sequences.
+unfoldable pub patternOf : List ℕ → List ℕ → List ℕ
+patternOf first second = elim (firstIsPattern first second) [ true ↦ first | false ↦ second ]
+
+unfoldable pub textOf : List ℕ → List ℕ → List ℕ
+textOf first second = elim (firstIsPattern first second) [ true ↦ second | false ↦ first ]
+
 -- A choice between two sequences that falls on the same one whichever is handed in first; of equal ones there is nothing to choose.
 abbrev pub EitherWay : (List ℕ → List ℕ → Bool) → List ℕ → List ℕ → Type 0
 EitherWay firstChosen xs ys = (firstChosen ys xs ≡ not (firstChosen xs ys)) ⊎ (xs ≡ ys)

@@ -4,6 +4,8 @@ pub mod Run
 pub mod Greedy
 pub mod Tiling
 pub mod Choice
+pub mod Stretch
+pub mod Until
 pub mod Listing
 pub mod Comparing
 pub mod Answer

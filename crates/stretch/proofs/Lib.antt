@@ -1,0 +1,2 @@
+pub mod Fillable
+pub mod Sides
