@@ -6,6 +6,7 @@ pub mod Blocks
 pub mod Told
 pub mod Passed
 pub mod Bounds
+pub mod Laying
 pub mod Step
 pub mod Settled
 pub mod Turn

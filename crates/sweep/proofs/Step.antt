@@ -2,7 +2,7 @@
 -- longer and no row before has one as long: it is the best tile, and laying it keeps the sweep's invariant. Where it has none, its bound
 -- falls below the level.
 -- Assumes nothing.
-use Prim.Native.Nat.{ℕ, _+_, _*_, _/_, _^_, _≤_, _<_}
+use Prim.Native.Nat.{ℕ, _+_, _-_, _*_, _/_, _^_, _≤_, _<_}
 use native.Mathlib.Nat.{add-mul, one-mul, mul-one, mul-le-mul-left, le-div-iff-mul-le}
 use native.Mathlib.Decide.{decLt, ℕ-discrete}
 use native.Mathlib.Omega.{arith}
@@ -14,19 +14,24 @@ use lib.Seq.{getD-set-same, getD-set-other, getD-drop}
 use Rattle.symbol.specs.Word.{isCall}
 use Rattle.buffer.specs.Buffer.{onto}
 use Rattle.tiling.specs.Run.{run, mark}
-use Rattle.tiling.specs.Tiling.{Tile, State, runAt, best, Best, Lies, size, lay}
+use Rattle.tiling.specs.Tiling.{Tile, State, runAt, best, Best, Lies, size, onPattern, lay}
 use Rattle.tiling.specs.Listing.{tileWords, covered}
-use Rattle.tiling.proofs.Run.{zero-left, mark-inside, run-most}
+use Rattle.tiling.specs.Stretch.{fillable}
+use Rattle.tiling.proofs.Run.{zero-left, not-zero-left, mark-inside, run-most}
+use Rattle.tiling.proofs.Until.{until-goes}
 use Rattle.tiling.specs.Tally.{tally}
 use Rattle.tiling.specs.Greedy.{Greedy, more}
 use Rattle.tiling.proofs.Best.{best-is, best-only, past-pattern}
 use Rattle.tiling.proofs.Marked.{lay-shrinks}
 use Rattle.tiling.proofs.Tiling.{best-lies, zero-no-call, takes-tile}
 use Rattle.tile.specs.Listed.{listed}
+use Rattle.stretch.specs.Sides.{OnFree}
 use Rattle.tiling.proofs.Demand.{covered-append}
 use Rattle.tile.proofs.Tail.{length-listed, listed-more}
 use Rattle.sweep.specs.Workspace.{Space, state, boundsFrom, bound, laid}
-use Rattle.sweep.specs.Progress.{Onward, Falling, Bounded, Sweeping, Searched}
+use Rattle.sweep.specs.Goal.{stopsAt, atGoal, stopped, untilGoal}
+use Rattle.sweep.specs.Settled.{settle-by, oneMore, laidTotals}
+use Rattle.sweep.specs.Progress.{Fits, far, Laid, Onward, Falling, Bounded, Sweeping, Searched}
 use Rattle.sweep.specs.declared.Job.{Job}
 use Rattle.sweep.specs.declared.Found.{Found}
 use Rattle.sweep.specs.declared.Totals.{Totals}
@@ -43,6 +48,11 @@ below-level j ws level p s b q t = go (decLt q (j .n))
     go : Dec (q < j .n) → runAt (state j ws) q t ≤ level
     go (yes h) = omega (arith, b .upper q t h, b .capped q h)
     go (no h) = omega (arith, past-pattern (state j ws) q t (omega (arith, h, pattern-length j ws s)))
+
+-- The goal by the record is the goal by how far the comparison has come.
+goal-is : (j : Job) (ws b : List ℕ) (k : Totals) → Fits j ws b k → atGoal j k ≡ stopped (j .goal) (j .minimum) (far j ws k)
+unfolding atGoal stopped
+goal-is j ws b k f = ap (λ n. stopsAt (j .goal) (k .covered) n) (f .left)
 
 module _ (j : Job) (level p : ℕ) (ws b : List ℕ) (k : Totals) (f : Found) (s : Sweeping j level p ws b k) (inside : p < j .n) (full-row : bound j ws p ≡ level) (r : Searched j ws level p f) where
   pub found-small : f .len ≤ 2048
@@ -61,6 +71,7 @@ module _ (j : Job) (level p : ℕ) (ws b : List ℕ) (k : Totals) (f : Found) (s
                 tile-room = s .fits .tile-room;
                 each = s .fits .each;
                 free = rw (ap (λ (u : State). u .pattern) (state-set j ws p (f .len))) (s .fits .free);
+                left = s .fits .left ∙ ap (λ (u : State). fillable (j .minimum) (u .pattern)) (sym (state-set j ws p (f .len)));
               };
           bounded =
               record {
@@ -104,6 +115,7 @@ module _ (j : Job) (level p : ℕ) (ws b : List ℕ) (k : Totals) (f : Found) (s
               record {
                 tiles = l .tiles;
                 rest = λ ls g. l .rest ls (rw (state-set j ws p (f .len)) at g);
+                going = λ ls. l .going ls ∙ ap (λ (u : State). l .tiles ++ untilGoal j (record { covered = k .covered; pattern = u .pattern }) ls) (sym (state-set j ws p (f .len)));
                 held = l .held;
                 counted = l .counted;
                 summed = l .summed;
@@ -166,10 +178,20 @@ module _ (j : Job) (level p : ℕ) (ws b : List ℕ) (k : Totals) (f : Found) (s
     each-after = omega (arith, add-mul (k .count) 1 (j .minimum), one-mul (j .minimum), s .fits .each, s .long)
 
     -- So there is room for one tile more.
-    pub tile-fits : 3 * (k .count + 1) ≤ length b
-    tile-fits =
+    pub tile-fits : j .goal .listed ≡ true → 3 * (k .count + 1) ≤ length b
+    tile-fits t =
         let q : k .count + 1 ≤ j .n / j .minimum = le-div-iff-mul-le (s .fits .least) .1 (omega (arith, each-after, free-after)) in
-        omega (arith, q, s .fits .tile-room)
+        omega (arith, q, s .fits .tile-room t)
+
+    -- Its words are free.
+    pub on-free : OnFree (j .minimum) p level (state j ws .pattern)
+    on-free =
+        record {
+          least = s .fits .least;
+          long = s .long;
+          within = next-lies .in-pattern;
+          free = λ i h. not-zero-left _ _ (next-lies .matching i h);
+        }
 
     -- And its numbers fit their types.
     few-covered : k .covered + level ≤ 2048
@@ -180,11 +202,8 @@ module _ (j : Job) (level p : ℕ) (ws b : List ℕ) (k : Totals) (f : Found) (s
         let m = mul-le-mul-left (k .count + 1) (s .fits .least) in
         omega (arith, m, mul-one (k .count + 1), each-after, few-covered)
 
-    pub covered-fits : k .covered + level < 2 ^ 64
-    covered-fits = omega (arith, few-covered)
-
-    pub count-fits : k .count + 1 < 2 ^ 64
-    count-fits = omega (arith, few-tiles)
+    pub covered-small : k .covered ≤ 2048
+    covered-small = omega (arith, few-covered)
 
     pub count-small : k .count ≤ 2048
     count-small = omega (arith, few-tiles)
@@ -232,8 +251,12 @@ module _ (j : Job) (level p : ℕ) (ws b : List ℕ) (k : Totals) (f : Found) (s
         go (yes l) = omega (arith, bound-falls q, s .bounded .passed q l)
         go (no l) = omega (arith, bound-covered j ws p (f .t .0) level q (omega (arith, l)) (omega (arith, s .long, s .fits .least)), s .long, s .fits .least)
 
-    module _ (b' : List ℕ) (e : b' ≡ take (3 * k .count) b ++ onto (tileWords (listed (j .straight) (record { p = p; t = f .t .0; len = level }) ∷ [])) (drop (3 * k .count) b)) where
-      stepped : Sweeping j level (p + 1) (laid j p (f .t .0) level ws) b' (record { count = k .count + 1; covered = k .covered + level })
+    module _ (b' : List ℕ) (e : b' ≡ oneMore j (k .count) next b) where
+      abbrev k' : Totals
+      k' = laidTotals j p level ws k
+
+      stepped : Sweeping j level (p + 1) (laid j p (f .t .0) level ws) b' k'
+      unfolding lay
       stepped =
           record {
             fits =
@@ -241,9 +264,10 @@ module _ (j : Job) (level p : ℕ) (ws b : List ℕ) (k : Totals) (f : Found) (s
                   space = space-laid j ws p (f .t .0) level in-pattern in-text (s .fits .space);
                   least = s .fits .least;
                   most = s .fits .most;
-                  tile-room = rw same-room (s .fits .tile-room);
+                  tile-room = λ t. rw (same-room (j .goal .listed) refl) (s .fits .tile-room t);
                   each = each-after;
                   free = free-after;
+                  left = ap (λ (u : State). fillable (j .minimum) (u .pattern)) (sym after-state);
                 };
             bounded =
                 record {
@@ -255,18 +279,20 @@ module _ (j : Job) (level p : ℕ) (ws b : List ℕ) (k : Totals) (f : Found) (s
             within = omega arith;
           }
         where
-          same-room : length b' ≡ length b
-          same-room = ap length e ∙ length-listed (k .count) b (listed (j .straight) (record { p = p; t = f .t .0; len = level })) tile-fits
+          same-room : (t : Bool) → j .goal .listed ≡ t → length b' ≡ length b
+          same-room true t = rw (e, t) (length-listed (k .count) b (listed (j .straight) next) (tile-fits t))
+          same-room false t = rw (e, t) refl
 
-      stepped-onward : Onward j ws b k (laid j p (f .t .0) level ws) b' (record { count = k .count + 1; covered = k .covered + level })
-      unfolding covered
-      stepped-onward =
+      stepped-onward : atGoal j k ≡ false → Onward j ws b k (laid j p (f .t .0) level ws) b' k'
+      unfolding covered lay
+      stepped-onward going =
           record {
             keeps = λ s₀ b₀ l.
                 record {
                   tiles = l .tiles ++ (next ∷ []);
                   rest = λ ls g. rw (append-assoc (l .tiles) (next ∷ []) ls) (l .rest (next ∷ ls) (lay-next ls g));
-                  held = e ∙ (rw (l .held, l .counted, map-append (listed (j .straight)) (l .tiles) (next ∷ []), ← length-map (l .tiles) (listed (j .straight))) (listed-more (map (listed (j .straight)) (l .tiles)) (listed (j .straight) next ∷ []) b₀));
+                  going = λ ls. rw (append-assoc (l .tiles) (next ∷ []) ls, append-assoc (l .tiles) (next ∷ []) (untilGoal j (far j (laid j p (f .t .0) level ws) k') ls)) (l .going (next ∷ ls) ∙ ap (λ xs. l .tiles ++ xs) (goes ls));
+                  held = held s₀ b₀ l (j .goal .listed) refl;
                   counted = rw (length-append (l .tiles) (next ∷ []), l .counted) refl;
                   summed = rw (map-append (listed (j .straight)) (l .tiles) (next ∷ []), covered-append (map (listed (j .straight)) (l .tiles)) (listed (j .straight) next ∷ []), ← l .summed) (one-more (j .straight));
                 };
@@ -279,16 +305,29 @@ module _ (j : Job) (level p : ℕ) (ws b : List ℕ) (k : Totals) (f : Found) (s
               let m : j .minimum ≤ size (best (state j ws)) = omega (arith, ap size next-is, s .long) in
               subst (λ k. Greedy best size lay (j .minimum) (state j ws) (k ∷ ls)) next-is (more m h)
 
+          goes : (ls : List Tile) → untilGoal j (far j ws k) (next ∷ ls) ≡ next ∷ untilGoal j (far j (laid j p (f .t .0) level ws) k') ls
+          goes ls =
+              until-goes onPattern size (stopped (j .goal) (j .minimum)) (far j ws k) next ls (sym (goal-is j ws b k (s .fits)) ∙ going)
+              ∙ ap (λ (u : State). next ∷ untilGoal j (record { covered = k .covered + level; pattern = u .pattern }) ls) (sym after-state)
+
+          held : (s₀ : State) (b₀ : List ℕ) (l : Laid j s₀ b₀ ws b k) (t : Bool) → j .goal .listed ≡ t → b' ≡ settle-by (j .goal .listed) (onto (tileWords (map (listed (j .straight)) (l .tiles ++ (next ∷ [])))) b₀) b₀
+          held s₀ b₀ l true t =
+              let h : b ≡ onto (tileWords (map (listed (j .straight)) (l .tiles))) b₀ = rw t at (l .held) in
+              e ∙ (rw (t, h, l .counted, map-append (listed (j .straight)) (l .tiles) (next ∷ []), ← length-map (l .tiles) (listed (j .straight))) (listed-more (map (listed (j .straight)) (l .tiles)) (listed (j .straight) next ∷ []) b₀))
+          held s₀ b₀ l false t = let h : b ≡ b₀ = rw t at (l .held) in e ∙ (rw (t, h) refl)
+
           one-more : (straight : Bool) → k .covered + level ≡ k .covered + covered (listed straight next ∷ [])
           one-more true = omega arith
           one-more false = omega arith
 
+      -- The same of a workspace and a record that were made so.
       module _ (ws' : List ℕ) (w : ws' ≡ laid j p (f .t .0) level ws) where
-        pub stepped-sweep : Sweeping j level (p + 1) ws' b' (record { count = k .count + 1; covered = k .covered + level })
-        stepped-sweep = subst (λ x. Sweeping j level (p + 1) x b' (record { count = k .count + 1; covered = k .covered + level })) (sym w) stepped
-
         pub stepped-falls : Falling j ws ws'
         stepped-falls = record { falls = λ q h. rw w (bound-falls q) }
 
-        pub stepped-lays : Onward j ws b k ws' b' (record { count = k .count + 1; covered = k .covered + level })
-        stepped-lays = subst (λ x. Onward j ws b k x b' (record { count = k .count + 1; covered = k .covered + level })) (sym w) stepped-onward
+        module _ (sum : Totals) (is : sum ≡ k') where
+          pub stepped-sweep : Sweeping j level (p + 1) ws' b' sum
+          stepped-sweep = rw (w, is) stepped
+
+          pub stepped-lays : atGoal j k ≡ false → Onward j ws b k ws' b' sum
+          stepped-lays going = rw (w, is) (stepped-onward going)

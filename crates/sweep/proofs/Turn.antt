@@ -5,24 +5,28 @@ use Prim.Native.Nat.{ℕ, _+_, _-_, _≤_, _<_, min}
 use native.Mathlib.Decide.{decLt}
 use native.Mathlib.Nat.{not-suc-le-zero}
 use native.Mathlib.Omega.{arith}
-use mathlib.Core.Path.{_≡_, refl, _∙_, ap, subst}
-use mathlib.Core.List.{List}
+use mathlib.Core.Path.{_≡_, refl, sym, _∙_, ap, subst}
+use mathlib.Core.Bool.{Bool, true, false}
+use mathlib.Core.List.{List, _++_}
 use lib.ListN.{length, getD}
 use Rattle.sweep.specs.Workspace.{state, bound}
 use Rattle.sweep.specs.Row.{Greatest}
 use Rattle.sweep.specs.Blocks.{Covering}
 use Rattle.sweep.specs.First.{First}
-use Rattle.sweep.specs.Progress.{Fits, Bounded, Onward, Sweeping, Ready, Finished}
+use Rattle.sweep.specs.Goal.{atGoal, untilGoal}
+use Rattle.sweep.specs.Progress.{Fits, Bounded, Onward, Sweeping, Over, Ready, Finished}
 use Rattle.sweep.specs.declared.Job.{Job}
 use Rattle.sweep.specs.declared.Totals.{Totals}
 use Rattle.symbol.specs.Word.{isCall}
 use Rattle.tiling.specs.Tally.{tally}
-use Rattle.tiling.specs.Tiling.{best, size, lay}
+use Rattle.tiling.specs.Stretch.{fillable}
+use Rattle.tiling.specs.Tiling.{State, best, size, lay}
 use Rattle.tiling.specs.Greedy.{Greedy}
 use Rattle.tiling.proofs.Best.{best-is}
 use Rattle.sweep.proofs.Step.{below-level}
 use Rattle.sweep.proofs.Blocks.{covering-top}
-use Rattle.sweep.proofs.Workspace.{space-kept}
+use Rattle.sweep.proofs.Workspace.{space-kept, pattern-length}
+use Rattle.stretch.proofs.Fillable.{fillable-most}
 
 pub onward-none : (j : Job) (ws b : List ℕ) (k : Totals) → Onward j ws b k ws b k
 onward-none j ws b k = record { keeps = λ s₀ b₀ l. l }
@@ -41,6 +45,7 @@ module _ (j : Job) (ws ws' b : List ℕ) (k : Totals) (same : state j ws' ≡ st
         tile-room = f .tile-room;
         each = f .each;
         free = omega (arith, ap (λ u. tally isCall (u .pattern)) same, f .free);
+        left = f .left ∙ ap (λ (u : State). fillable (j .minimum) (u .pattern)) (sym same);
       }
 
   pub unmoved-onward : Onward j ws b k ws' b k
@@ -51,6 +56,7 @@ module _ (j : Job) (ws ws' b : List ℕ) (k : Totals) (same : state j ws' ≡ st
             record {
               tiles = l .tiles;
               rest = λ ls g. l .rest ls (subst (λ u. Greedy best size lay (j .minimum) u ls) same g);
+              going = λ ls. l .going ls ∙ ap (λ (u : State). l .tiles ++ untilGoal j (record { covered = k .covered; pattern = u .pattern }) ls) (sym same);
               held = l .held;
               counted = l .counted;
               summed = l .summed;
@@ -64,6 +70,22 @@ module _ (j : Job) (ws ws' b : List ℕ) (k : Totals) (same : state j ws' ≡ st
         onward = onward-more j ws b ws' b ws₂ b₂ k k k₂ unmoved-onward (f .onward);
         short = f .short;
       }
+
+-- ---- the goal
+-- The numbers of its test are small.
+pub few-covered : (j : Job) (ws b : List ℕ) (k : Totals) → Fits j ws b k → k .covered ≤ 2048
+few-covered j ws b k f = omega (arith, f .free, f .space .short-pattern)
+
+pub few-fillable : (j : Job) (ws b : List ℕ) (k : Totals) → Fits j ws b k → k .fillable ≤ 2048
+few-fillable j ws b k f = omega (arith, f .left, fillable-most (j .minimum) (state j ws .pattern), pattern-length j ws (f .space), f .space .short-pattern)
+
+-- The test as the code asks it.
+pub going-on : (j : Job) (k : Totals) (r : Bool) → r ≡ atGoal j k → r ≡ false → atGoal j k ≡ false
+going-on j k r e f = sym e ∙ f
+
+-- A comparison that is at its goal is not on its way to it.
+pub at-goal-no : (r g : Bool) → r ≡ g → r ≡ true → g ≡ false → ⊥
+at-goal-no r g e t f = let c : true ≡ false = sym t ∙ (e ∙ f) in let z : _≡_ {A = ℕ} 0 1 = cc in omega arith
 
 -- ---- a sweep, from one row whose bound is the level to the next
 -- The rows passed over are below the level.
@@ -111,15 +133,19 @@ module _ (j : Job) (level : ℕ) (ws₀ b₀ : List ℕ) (k₀ : Totals) (ws b :
         same-tiles = u ∙ s .same-tiles;
       }
 
-  pub swept-all : j .n ≤ p → Sweeping j level (j .n) ws b k
-  swept-all h = let e : p ≡ j .n = omega (arith, s .sweeping .within) in rw e at (s .sweeping)
+  -- It ends where every row was passed, or at the goal.
+  pub swept-all : j .n ≤ p → Over j level ws b k
+  swept-all h = record { fits = s .sweeping .fits; upper = s .sweeping .bounded .upper; below = λ g q l. s .sweeping .bounded .passed q (omega arith) }
+
+  pub swept-goal : (r : Bool) → r ≡ atGoal j k → r ≡ true → Over j level ws b k
+  swept-goal r e t = record { fits = s .sweeping .fits; upper = s .sweeping .bounded .upper; below = λ g. absurd (at-goal-no r (atGoal j k) e t g) }
 
 -- ---- the levels, down to runs of n words
 pub record Level (j : Job) (n : ℕ) (ws₀ b₀ : List ℕ) (k₀ : Totals) (ws b : List ℕ) (k : Totals) (bs : List ℕ) (level : ℕ) : Type 0 where
   pub ready : Ready j ws b k
   pub enough : j .minimum ≤ n
   pub covering : Covering j ws bs
-  pub capped : (q : ℕ) → q < j .n → bound j ws q ≤ level
+  pub capped : atGoal j k ≡ false → (q : ℕ) → q < j .n → bound j ws q ≤ level
   pub onward : Onward j ws₀ b₀ k₀ ws b k
   pub same-room : length ws ≡ length ws₀
   pub same-tiles : length b ≡ length b₀
@@ -129,24 +155,24 @@ level-least j = omega arith
 
 pub level-none : (j : Job) (n : ℕ) (ws b : List ℕ) (k : Totals) (bs : List ℕ) (level : ℕ) → j .minimum ≤ n → Ready j ws b k → Covering j ws bs → Greatest (λ c. getD bs c 0) 64 level → Level j n ws b k ws b k bs level
 level-none j n ws b k bs level h r c g =
-    record { ready = r; enough = h; covering = c; capped = covering-top j ws bs level (r .fits .space) c g; onward = onward-none j ws b k; same-room = refl; same-tiles = refl }
+    record { ready = r; enough = h; covering = c; capped = λ going. covering-top j ws bs level (r .fits .space) c g; onward = onward-none j ws b k; same-room = refl; same-tiles = refl }
 
 module _ (j : Job) (n : ℕ) (ws₀ b₀ : List ℕ) (k₀ : Totals) (ws b : List ℕ) (k : Totals) (bs : List ℕ) (level : ℕ) (l : Level j n ws₀ b₀ k₀ ws b k bs level) where
-  unswept : Bounded j ws level 0
-  unswept = record { upper = l .ready .upper; capped = l .capped; passed = λ q m. absurd (not-suc-le-zero m) }
+  unswept : atGoal j k ≡ false → Bounded j ws level 0
+  unswept going = record { upper = l .ready .upper; capped = l .capped going; passed = λ q m. absurd (not-suc-le-zero m) }
 
   -- A sweep can begin.
-  pub level-sweep : n ≤ level → Sweeping j level 0 ws b k
-  level-sweep h = record { fits = l .ready .fits; bounded = unswept; long = omega (arith, l .enough); within = omega arith }
+  pub level-sweep : n ≤ level → atGoal j k ≡ false → Sweeping j level 0 ws b k
+  level-sweep h going = record { fits = l .ready .fits; bounded = unswept going; long = omega (arith, l .enough); within = omega arith }
 
-  -- After it every bound is below the level; and none exceeds the greatest of the blocks.
-  pub level-more : (ws' b' : List ℕ) (k' : Totals) (bs' : List ℕ) → Sweeping j level (j .n) ws' b' k' → Covering j ws' bs' → (top next : ℕ) → Greatest (λ c. getD bs' c 0) 64 top → next ≡ min (level - 1) top → Onward j ws b k ws' b' k' → length ws' ≡ length ws → length b' ≡ length b → Level j n ws₀ b₀ k₀ ws' b' k' bs' next
+  -- After it every bound is below the level, or the goal is reached; and none exceeds the greatest of the blocks.
+  pub level-more : (ws' b' : List ℕ) (k' : Totals) (bs' : List ℕ) → Over j level ws' b' k' → Covering j ws' bs' → (top next : ℕ) → Greatest (λ c. getD bs' c 0) 64 top → next ≡ min (level - 1) top → Onward j ws b k ws' b' k' → length ws' ≡ length ws → length b' ≡ length b → Level j n ws₀ b₀ k₀ ws' b' k' bs' next
   level-more ws' b' k' bs' s c top next g e o v w =
       record {
-        ready = record { fits = s .fits; upper = s .bounded .upper };
+        ready = record { fits = s .fits; upper = s .upper };
         enough = l .enough;
         covering = c;
-        capped = λ q h. omega (arith, s .bounded .passed q h, covering-top j ws' bs' top (s .fits .space) c g q h, e);
+        capped = λ going q h. omega (arith, s .below going q h, covering-top j ws' bs' top (s .fits .space) c g q h, e);
         onward = onward-more j ws₀ b₀ ws b ws' b' k₀ k k' (l .onward) o;
         same-room = v ∙ l .same-room;
         same-tiles = w ∙ l .same-tiles;
@@ -156,12 +182,15 @@ module _ (j : Job) (n : ℕ) (ws₀ b₀ : List ℕ) (k₀ : Totals) (ws b : Lis
   pub level-less : (top next : ℕ) → next ≡ min (level - 1) top → n ≤ level → next < level
   level-less top next e h = omega (arith, e, l .enough, l .ready .fits .least)
 
-  -- Below n nothing as long is left.
+  -- Below n nothing as long is left; and at the goal there is nothing more to do.
   pub level-done : level < n → Finished j n ws₀ b₀ k₀ ws b k
   level-done h =
       let s = state j ws in
       record {
         fits = l .ready .fits;
         onward = l .onward;
-        short = omega (arith, best-is s .long, below-level j ws level 0 (l .ready .fits .space) unswept (best s .p) (best s .t));
+        short = λ going. omega (arith, best-is s .long, below-level j ws level 0 (l .ready .fits .space) (unswept going) (best s .p) (best s .t));
       }
+
+  pub level-goal : (r : Bool) → r ≡ atGoal j k → r ≡ true → Finished j n ws₀ b₀ k₀ ws b k
+  level-goal r e t = record { fits = l .ready .fits; onward = l .onward; short = λ going. absurd (at-goal-no r (atGoal j k) e t going) }

@@ -3,23 +3,36 @@
 use tile::PatternAt;
 use tile::TextAt;
 ghost use mathlib.Core.Path.{_≡_};
+ghost use mathlib.Core.Bool.{true, false};
 ghost use Prim.Native.Nat.{_+_, _-_, _*_, _/_, _≤_, _<_, min, max};
 ghost use lib.Dec.{ltb};
 ghost use lib.ListN.{length, drop, getD, set};
-ghost use Rattle.tiling.specs.Run.{run, equalRun};
+ghost use Rattle.tiling.specs.Run.{run, equalRun, mark};
+ghost use Rattle.tiling.specs.Stretch.{fillable};
+ghost use Rattle.stretch.specs.Sides.{OnFree};
 ghost use Rattle.sweep.specs.Workspace.{Space, state, boundsFrom, bound, laid};
 ghost use Rattle.sweep.specs.Row.{better, Greatest, alikeBound, boundBy, freeWords, passedOver, before, takenOver};
 ghost use Rattle.sweep.specs.First.{First};
 ghost use Rattle.sweep.specs.Blocks.{BlockSet, Refreshed, Covering, rowAfter};
-ghost use Rattle.sweep.specs.Settled.{settledWords, settledTiles, settledTotals, settledRows};
+ghost use Rattle.sweep.specs.Goal.{atGoal};
+ghost use Rattle.sweep.specs.Settled.{oneMore, laidTotals, settledWords, settledTiles, settledTotals, settledRows};
 ghost use Rattle.sweep.specs.Progress.{Searched, Sweeping, Onward, Falling};
 
-// What a comparison works on: the lengths of pattern and text, the minimum, and whether the first sequence is the pattern.
+// What a comparison is for: whether its tiles are listed, and where it stops: when as many words are covered as are enough, or
+// when fewer than are needed can still be. A whole comparison lists its tiles and never stops.
+pub struct Goal {
+    pub listed: bool,
+    pub enough: usize,
+    pub needed: usize,
+}
+
+// What a comparison works on: the lengths of pattern and text, the minimum, whether the first sequence is the pattern, and its goal.
 pub struct Job {
     pub n: usize,
     pub m: usize,
     pub minimum: usize,
     pub straight: bool,
+    pub goal: Goal,
 }
 
 // The longest run of a row and the first position on the text that has it.
@@ -28,16 +41,26 @@ pub struct Found {
     pub len: usize,
 }
 
-// The tiles laid so far, and how many words they cover.
+// The record of a comparison under way: the tiles laid so far, how many words they cover, and how many words of the pattern
+// further tiles may take, which are those in free stretches of at least the minimum.
 pub struct Totals {
     pub count: usize,
     pub covered: usize,
+    pub fillable: usize,
 }
 
 // A round of the sweep: the level, and what is laid before it.
 pub struct Round {
     pub level: usize,
     pub totals: Totals,
+}
+
+// Whether a comparison is at its goal, where it stops: the one test, asked before the first tile and after each.
+pub fn at_goal(job: Job, totals: Totals) -> bool
+    requires { ⌜ (totals .covered ≤ 2048) × (totals .fillable ≤ 2048) ⌝ }
+    ensures { λ r. ⌜ r ≡ atGoal job totals ⌝ }
+{
+    (job.goal.enough <= totals.covered) | (totals.covered + totals.fillable < job.goal.needed)
 }
 
 // The longer of what was found and a run of len words at t; of equal ones, what was found.
@@ -322,6 +345,48 @@ fn lay_tile(ws: &mut [u32], job: Job, p: PatternAt, t: TextAt, len: usize)
     tile::mark_words(ws, rows, len);
 }
 
+// How many fewer words of the pattern further tiles may take after one of len words at p.
+fn taken_by(ws: &[u32], job: Job, p: PatternAt, len: usize) -> usize
+    requires { ⌜ Space job (now ws) × OnFree (job .minimum) (p .0) len (state job (now ws) .pattern) ⌝ }
+    ensures { λ r. ⌜ r + fillable (job .minimum) (mark (p .0) len (state job (now (ws .entry)) .pattern)) ≡ fillable (job .minimum) (state job (now (ws .entry)) .pattern) ⌝ }
+{
+    let n = job.n;
+    stretch::taken(&ws[0..n], job.minimum, p.0, len)
+}
+
+// Lays a tile and brings the record of the comparison up to date.
+fn lay_next(
+    ws: &mut [u32],
+    job: Job,
+    p: PatternAt,
+    t: TextAt,
+    len: usize,
+    totals: Totals,
+) -> Totals
+    requires { ⌜ Space job (now ws) × (p .0 + len ≤ job .n) × (t .0 + len ≤ job .m) × OnFree (job .minimum) (p .0) len (state job (now ws) .pattern) ⌝ }
+    requires { ⌜ (totals .count ≤ 2048) × (totals .covered ≤ 2048) × (totals .fillable ≡ fillable (job .minimum) (state job (now ws) .pattern)) ⌝ }
+    ensures { λ r. ⌜ r ≡ laidTotals job (p .0) len (now (ws .entry)) totals ⌝ }
+    ensures { λ r. ⌜ now (ws .exit) ≡ laid job (p .0) (t .0) len (now (ws .entry)) ⌝ }
+{
+    let taken = taken_by(ws, job, p, len);
+    lay_tile(ws, job, p, t, len);
+    Totals {
+        count: totals.count + 1,
+        covered: totals.covered + len,
+        fillable: totals.fillable - taken,
+    }
+}
+
+// Lists a tile after the count tiles that are listed already, where tiles are listed.
+fn list(tiles: &mut [u32], job: Job, count: usize, p: PatternAt, t: TextAt, len: usize)
+    requires { ⌜ (job .goal .listed ≡ true → 3 * (count + 1) ≤ length (now tiles)) × (p .0 ≤ 2048) × (t .0 ≤ 2048) × (len ≤ 2048) × (count ≤ 2048) ⌝ }
+    ensures { λ r. ⌜ now (tiles .exit) ≡ oneMore job count (record { p = p .0; t = t .0; len = len }) (now (tiles .entry)) ⌝ }
+{
+    if job.goal.listed {
+        tile::list_tile(tiles, count, job.straight, p, t, len);
+    }
+}
+
 // After the row at p was searched, where its bound is the level: a run of that length is the next tile, since no run is
 // longer and no row before has one as long. A shorter one is the row's new bound.
 pub fn settle(
@@ -333,8 +398,8 @@ pub fn settle(
     tiles: &mut [u32],
     totals: Totals,
 ) -> Totals
-    requires { ⌜ Sweeping job level (p .0) (now ws) (now tiles) totals × (p .0 < job .n) × (bound job (now ws) (p .0) ≡ level) × Searched job (now ws) level (p .0) found ⌝ }
-    ensures { λ r. ⌜ r ≡ settledTotals level found totals ⌝ }
+    requires { ⌜ Sweeping job level (p .0) (now ws) (now tiles) totals × (atGoal job totals ≡ false) × (p .0 < job .n) × (bound job (now ws) (p .0) ≡ level) × Searched job (now ws) level (p .0) found ⌝ }
+    ensures { λ r. ⌜ r ≡ settledTotals job level (p .0) found (now (ws .entry)) totals ⌝ }
     ensures { λ r. ⌜ now (ws .exit) ≡ settledWords job level (p .0) found (now (ws .entry)) ⌝ }
     ensures { λ r. ⌜ now (tiles .exit) ≡ settledTiles job level (p .0) found totals (now (tiles .entry)) ⌝ }
     ensures { λ r. ⌜ Sweeping job level (p .0 + 1) (now (ws .exit)) (now (tiles .exit)) r ⌝ }
@@ -345,10 +410,6 @@ pub fn settle(
         set_bound(ws, job, p, found.len);
         return totals;
     }
-    lay_tile(ws, job, p, found.t, level);
-    tile::list_tile(tiles, totals.count, job.straight, p, found.t, level);
-    Totals {
-        count: totals.count + 1,
-        covered: totals.covered + level,
-    }
+    list(tiles, job, totals.count, p, found.t, level);
+    lay_next(ws, job, p, found.t, level, totals)
 }

@@ -5,6 +5,7 @@ pub mod Run
 pub mod Tally
 pub mod Peak
 pub mod Greedy
+pub mod Until
 pub mod Best
 pub mod Marked
 pub mod Covered

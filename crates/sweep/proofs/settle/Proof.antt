@@ -2,7 +2,7 @@
 -- new bound.
 -- Assumes nothing.
 use Rattle.sweep.proofs.Settled.{settle-laid, settle-lowered}
-use Rattle.sweep.proofs.Step.{found-small, lowered-sweep, lowered-lays, lowered-falls, in-pattern, in-text, tile-fits, text-small, level-small, count-small, count-fits, covered-fits, stepped-sweep, stepped-lays, stepped-falls}
+use Rattle.sweep.proofs.Step.{found-small, lowered-sweep, lowered-lays, lowered-falls, in-pattern, in-text, on-free, tile-fits, text-small, level-small, count-small, covered-small, stepped-sweep, stepped-lays, stepped-falls}
 use borrow.Author.Needs.{needs}
 use Rattle.sweep.proofs.settle.Statement.{statement}
 use Rattle.sweep.proofs.settle.Tie as tie
@@ -16,17 +16,11 @@ same-length c = search needs
 returns : tie.Need-returns
 returns c = (search settle-lowered, (search settle-lowered, (search settle-lowered, (search lowered-sweep, (search lowered-lays, search lowered-falls)))))
 
-lay-tile-requires : tie.Need-lay-tile-requires
-lay-tile-requires c κs = (search needs, search in-pattern, search in-text)
+list-requires : tie.Need-list-requires
+list-requires c κs = (search tile-fits, search needs, search text-small, search level-small, search count-small)
 
-list-tile-requires : tie.Need-list-tile-requires
-list-tile-requires c κs = (search tile-fits, search needs, search text-small, search level-small, search count-small)
-
-add-t17 : tie.Need-add-t17
-add-t17 c = search count-fits
-
-add-t18 : tie.Need-add-t18
-add-t18 c = search covered-fits
+lay-next-requires : tie.Need-lay-next-requires
+lay-next-requires c κs = ((search needs, search in-pattern, search in-text, search on-free), (search count-small, search covered-small, search needs))
 
 same-length-2 : tie.Need-same-length-2
 same-length-2 c = search needs
@@ -44,10 +38,8 @@ settle-spec =
     set-bound-requires
     same-length
     returns
-    lay-tile-requires
-    list-tile-requires
-    add-t17
-    add-t18
+    list-requires
+    lay-next-requires
     same-length-2
     same-length-3
     returns-2)
