@@ -16,12 +16,13 @@ use Rattle.sweep.specs.Row.{Greatest}
 use Rattle.sweep.specs.First.{First}
 use Rattle.sweep.specs.Blocks.{Covering}
 use Rattle.sweep.specs.Settled.{settle-by, settledWords}
-use Rattle.sweep.specs.Progress.{UpperFrom, Onward, Sweeping, Searched, Ready, Finished}
+use Rattle.sweep.specs.Goal.{atGoal}
+use Rattle.sweep.specs.Progress.{UpperFrom, Onward, Sweeping, Over, Searched, Ready, Finished}
 use Rattle.sweep.specs.declared.Found.{Found}
 use Rattle.sweep.specs.declared.Job.{Job}
 use Rattle.sweep.specs.declared.Totals.{Totals}
 use Rattle.sweep.proofs.Step.{in-pattern, in-text}
-use Rattle.sweep.proofs.Turn.{Swept, swept-none, swept-row, swept-long, swept-more, Level, level-none, level-sweep, level-more, level-less, level-done}
+use Rattle.sweep.proofs.Turn.{Swept, swept-none, swept-row, swept-long, swept-more, Level, level-none, level-sweep, level-more, level-less, level-done, level-goal}
 use Rattle.index.specs.Indexed.{Ranges, Indexed}
 use Rattle.index.specs.declared.Pass.{Pass}
 use Rattle.index.proofs.Kept.{indexed-kept, kept-set, kept-laid}
@@ -114,10 +115,10 @@ pub lowering-none : (x : Pass) (heads ws b : List ℕ) (k : Totals) (bs : List �
 lowering-none x heads ws b k bs level r c index ranges g = record { levels = level-none (x .job) (x .s) ws b k bs level (ranges .enough) r c g; indexed = index; ranges = ranges }
 
 module _ (x : Pass) (heads ws₀ b₀ : List ℕ) (k₀ : Totals) (ws b : List ℕ) (k : Totals) (bs : List ℕ) (level : ℕ) (i : Lowering x heads ws₀ b₀ k₀ ws b k bs level) where
-  pub lowering-sweep : x .s ≤ level → Sweeping (x .job) level 0 ws b k
-  lowering-sweep h = level-sweep (x .job) (x .s) ws₀ b₀ k₀ ws b k bs level (i .levels) h
+  pub lowering-sweep : x .s ≤ level → atGoal (x .job) k ≡ false → Sweeping (x .job) level 0 ws b k
+  lowering-sweep = level-sweep (x .job) (x .s) ws₀ b₀ k₀ ws b k bs level (i .levels)
 
-  pub lowering-more : (ws' b' : List ℕ) (k' : Totals) (bs' : List ℕ) → Sweeping (x .job) level (x .job .n) ws' b' k' → Covering (x .job) ws' bs' → (top next : ℕ) → Greatest (λ c. getD bs' c 0) 64 top → next ≡ min (level - 1) top → Onward (x .job) ws b k ws' b' k' → Indexed x ws' heads → length ws' ≡ length ws → length b' ≡ length b → Lowering x heads ws₀ b₀ k₀ ws' b' k' bs' next
+  pub lowering-more : (ws' b' : List ℕ) (k' : Totals) (bs' : List ℕ) → Over (x .job) level ws' b' k' → Covering (x .job) ws' bs' → (top next : ℕ) → Greatest (λ c. getD bs' c 0) 64 top → next ≡ min (level - 1) top → Onward (x .job) ws b k ws' b' k' → Indexed x ws' heads → length ws' ≡ length ws → length b' ≡ length b → Lowering x heads ws₀ b₀ k₀ ws' b' k' bs' next
   lowering-more ws' b' k' bs' w c top next g e o index a d =
       record {
         levels = level-more (x .job) (x .s) ws₀ b₀ k₀ ws b k bs level (i .levels) ws' b' k' bs' w c top next g e o a d;
@@ -130,3 +131,6 @@ module _ (x : Pass) (heads ws₀ b₀ : List ℕ) (k₀ : Totals) (ws b : List �
 
   pub lowering-done : level < x .s → Finished (x .job) (x .s) ws₀ b₀ k₀ ws b k
   lowering-done h = level-done (x .job) (x .s) ws₀ b₀ k₀ ws b k bs level (i .levels) h
+
+  pub lowering-goal : (r : Bool) → r ≡ atGoal (x .job) k → r ≡ true → Finished (x .job) (x .s) ws₀ b₀ k₀ ws b k
+  lowering-goal = level-goal (x .job) (x .s) ws₀ b₀ k₀ ws b k bs level (i .levels)

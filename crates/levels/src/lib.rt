@@ -3,10 +3,13 @@ use index::Pass;
 use sweep::Round;
 use sweep::Totals;
 use tile::PatternAt;
+ghost use mathlib.Core.Path.{_≡_};
+ghost use mathlib.Core.Bool.{false};
 ghost use Prim.Native.Nat.{_+_, _≤_, _<_};
 ghost use Rattle.sweep.specs.Workspace.{bound};
 ghost use Rattle.sweep.specs.Blocks.{Covering};
-ghost use Rattle.sweep.specs.Progress.{Ready, Falling, Sweeping, Onward, Finished};
+ghost use Rattle.sweep.specs.Goal.{atGoal};
+ghost use Rattle.sweep.specs.Progress.{Ready, Falling, Sweeping, Over, Onward, Finished};
 ghost use Rattle.index.specs.Indexed.{Ranges, Indexed};
 
 // A row that is visited, and what is laid before it.
@@ -25,7 +28,7 @@ fn visit(
     tiles: &mut [u32],
     totals: Totals,
 ) -> Totals
-    requires { ⌜ Sweeping (pass .job) (bound (pass .job) (now ws) (p .0)) (p .0) (now ws) (now tiles) totals × Indexed pass (now ws) (now heads) × Ranges pass × (pass .s ≤ bound (pass .job) (now ws) (p .0)) × (p .0 < pass .job .n) ⌝ }
+    requires { ⌜ Sweeping (pass .job) (bound (pass .job) (now ws) (p .0)) (p .0) (now ws) (now tiles) totals × (atGoal (pass .job) totals ≡ false) × Indexed pass (now ws) (now heads) × Ranges pass × (pass .s ≤ bound (pass .job) (now ws) (p .0)) × (p .0 < pass .job .n) ⌝ }
     ensures { λ r. ⌜ Sweeping (pass .job) (bound (pass .job) (now (ws .entry)) (p .0)) (p .0 + 1) (now (ws .exit)) (now (tiles .exit)) r ⌝ }
     ensures { λ r. ⌜ Onward (pass .job) (now (ws .entry)) (now (tiles .entry)) totals (now (ws .exit)) (now (tiles .exit)) r ⌝ }
     ensures { λ r. ⌜ Falling (pass .job) (now (ws .entry)) (now (ws .exit)) ⌝ }
@@ -46,7 +49,7 @@ fn step(
     tiles: &mut [u32],
     stop: Stop,
 ) -> Totals
-    requires { ⌜ Sweeping (pass .job) (bound (pass .job) (now ws) (stop .p .0)) (stop .p .0) (now ws) (now tiles) (stop .totals) × Covering (pass .job) (now ws) (now blocks) × Indexed pass (now ws) (now heads) × Ranges pass × (pass .s ≤ bound (pass .job) (now ws) (stop .p .0)) × (stop .p .0 < pass .job .n) ⌝ }
+    requires { ⌜ Sweeping (pass .job) (bound (pass .job) (now ws) (stop .p .0)) (stop .p .0) (now ws) (now tiles) (stop .totals) × (atGoal (pass .job) (stop .totals) ≡ false) × Covering (pass .job) (now ws) (now blocks) × Indexed pass (now ws) (now heads) × Ranges pass × (pass .s ≤ bound (pass .job) (now ws) (stop .p .0)) × (stop .p .0 < pass .job .n) ⌝ }
     ensures { λ r. ⌜ Sweeping (pass .job) (bound (pass .job) (now (ws .entry)) (stop .p .0)) (stop .p .0 + 1) (now (ws .exit)) (now (tiles .exit)) r ⌝ }
     ensures { λ r. ⌜ Onward (pass .job) (now (ws .entry)) (now (tiles .entry)) (stop .totals) (now (ws .exit)) (now (tiles .exit)) r ⌝ }
     ensures { λ r. ⌜ Covering (pass .job) (now (ws .exit)) (now (blocks .exit)) ⌝ }
@@ -59,7 +62,7 @@ fn step(
     sum
 }
 
-// Goes through the rows in order and lays every tile of the level's length.
+// Goes through the rows in order and lays every tile of the level's length, until the goal.
 fn sweep_rows(
     ws: &mut [u32],
     pass: Pass,
@@ -70,7 +73,7 @@ fn sweep_rows(
     round: Round,
 ) -> Totals
     requires { ⌜ Sweeping (pass .job) (round .level) 0 (now ws) (now tiles) (round .totals) × Covering (pass .job) (now ws) (now blocks) × Indexed pass (now ws) (now heads) × Ranges pass × (pass .s ≤ round .level) ⌝ }
-    ensures { λ r. ⌜ Sweeping (pass .job) (round .level) (pass .job .n) (now (ws .exit)) (now (tiles .exit)) r ⌝ }
+    ensures { λ r. ⌜ Over (pass .job) (round .level) (now (ws .exit)) (now (tiles .exit)) r ⌝ }
     ensures { λ r. ⌜ Onward (pass .job) (now (ws .entry)) (now (tiles .entry)) (round .totals) (now (ws .exit)) (now (tiles .exit)) r ⌝ }
     ensures { λ r. ⌜ Covering (pass .job) (now (ws .exit)) (now (blocks .exit)) ⌝ }
     ensures { λ r. ⌜ Indexed pass (now (ws .exit)) (now (heads .entry)) ⌝ }
@@ -78,7 +81,7 @@ fn sweep_rows(
     let level = round.level;
     let mut sum = round.totals;
     let mut p = sweep::next_row(ws, pass.job, blocks, level, PatternAt(0));
-    while p.0 < pass.job.n {
+    while p.0 < pass.job.n && !sweep::at_goal(pass.job, sum) {
         let stop = Stop { p, totals: sum };
         sum = step(ws, pass, heads, last, blocks, tiles, stop);
         p = sweep::next_row(ws, pass.job, blocks, level, PatternAt(p.0 + 1));
@@ -86,7 +89,7 @@ fn sweep_rows(
     sum
 }
 
-// Lays the tiles of every length from the greatest bound down to the search length.
+// Lays the tiles of every length from the greatest bound down to the search length, until the goal.
 pub fn lay_levels(
     ws: &mut [u32],
     pass: Pass,
@@ -101,7 +104,7 @@ pub fn lay_levels(
 {
     let mut sum = totals;
     let mut level = sweep::top(blocks);
-    while pass.s <= level {
+    while pass.s <= level && !sweep::at_goal(pass.job, sum) {
         let round = Round { level, totals: sum };
         sum = sweep_rows(ws, pass, heads, last, blocks, tiles, round);
         level = buffer::lesser(level - 1, sweep::top(blocks));

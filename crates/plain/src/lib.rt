@@ -7,6 +7,7 @@ use tile::PatternAt;
 use tile::TextAt;
 use tiling::Compared;
 ghost use mathlib.Core.Path.{_≡_};
+ghost use mathlib.Core.Bool.{false};
 ghost use Prim.Native.Nat.{_+_, _-_, _≤_, _<_};
 ghost use lib.ListN.{length, drop};
 ghost use Rattle.symbol.specs.Sequence.{Current};
@@ -15,7 +16,8 @@ ghost use Rattle.sweep.specs.Workspace.{Space, state, bound};
 ghost use Rattle.sweep.specs.Row.{Row};
 ghost use Rattle.sweep.specs.First.{First};
 ghost use Rattle.sweep.specs.Blocks.{Covering};
-ghost use Rattle.sweep.specs.Progress.{Fits, Searched, UpperFrom, RowBound, Filled, Ready, Falling, Sweeping, Onward, Finished};
+ghost use Rattle.sweep.specs.Goal.{atGoal};
+ghost use Rattle.sweep.specs.Progress.{Fits, Searched, UpperFrom, RowBound, Filled, Ready, Falling, Sweeping, Over, Onward, Finished};
 ghost use Rattle.plain.specs.Promise.{Plain};
 ghost use Rattle.plain.specs.Bounds.{Capped, goesOn};
 ghost use Rattle.plain.specs.Pair.{SideBySide};
@@ -194,7 +196,7 @@ fn visit(
     tiles: &mut [u32],
     totals: Totals,
 ) -> Totals
-    requires { ⌜ Sweeping job (bound job (now ws) (p .0)) (p .0) (now ws) (now tiles) totals × (p .0 < job .n) ⌝ }
+    requires { ⌜ Sweeping job (bound job (now ws) (p .0)) (p .0) (now ws) (now tiles) totals × (atGoal job totals ≡ false) × (p .0 < job .n) ⌝ }
     ensures { λ r. ⌜ Sweeping job (bound job (now (ws .entry)) (p .0)) (p .0 + 1) (now (ws .exit)) (now (tiles .exit)) r ⌝ }
     ensures { λ r. ⌜ Onward job (now (ws .entry)) (now (tiles .entry)) totals (now (ws .exit)) (now (tiles .exit)) r ⌝ }
     ensures { λ r. ⌜ Falling job (now (ws .entry)) (now (ws .exit)) ⌝ }
@@ -214,7 +216,7 @@ fn step(
     tiles: &mut [u32],
     totals: Totals,
 ) -> Totals
-    requires { ⌜ Sweeping job (bound job (now ws) (p .0)) (p .0) (now ws) (now tiles) totals × Covering job (now ws) (now blocks) × (p .0 < job .n) ⌝ }
+    requires { ⌜ Sweeping job (bound job (now ws) (p .0)) (p .0) (now ws) (now tiles) totals × (atGoal job totals ≡ false) × Covering job (now ws) (now blocks) × (p .0 < job .n) ⌝ }
     ensures { λ r. ⌜ Sweeping job (bound job (now (ws .entry)) (p .0)) (p .0 + 1) (now (ws .exit)) (now (tiles .exit)) r ⌝ }
     ensures { λ r. ⌜ Onward job (now (ws .entry)) (now (tiles .entry)) totals (now (ws .exit)) (now (tiles .exit)) r ⌝ }
     ensures { λ r. ⌜ Covering job (now (ws .exit)) (now (blocks .exit)) ⌝ }
@@ -226,7 +228,7 @@ fn step(
     sum
 }
 
-// Goes through the rows in order and lays every tile of the level's length.
+// Goes through the rows in order and lays every tile of the level's length, until the goal.
 fn sweep_rows(
     ws: &mut [u32],
     job: Job,
@@ -236,21 +238,21 @@ fn sweep_rows(
     round: Round,
 ) -> Totals
     requires { ⌜ Sweeping job (round .level) 0 (now ws) (now tiles) (round .totals) × Covering job (now ws) (now blocks) ⌝ }
-    ensures { λ r. ⌜ Sweeping job (round .level) (job .n) (now (ws .exit)) (now (tiles .exit)) r ⌝ }
+    ensures { λ r. ⌜ Over job (round .level) (now (ws .exit)) (now (tiles .exit)) r ⌝ }
     ensures { λ r. ⌜ Onward job (now (ws .entry)) (now (tiles .entry)) (round .totals) (now (ws .exit)) (now (tiles .exit)) r ⌝ }
     ensures { λ r. ⌜ Covering job (now (ws .exit)) (now (blocks .exit)) ⌝ }
 {
     let level = round.level;
     let mut sum = round.totals;
     let mut p = sweep::next_row(ws, job, blocks, level, PatternAt(0));
-    while p.0 < job.n {
+    while p.0 < job.n && !sweep::at_goal(job, sum) {
         sum = step(ws, job, last, blocks, p, tiles, sum);
         p = sweep::next_row(ws, job, blocks, level, PatternAt(p.0 + 1));
     }
     sum
 }
 
-// Lays the tiles of every length from the greatest bound down to the minimum.
+// Lays the tiles of every length from the greatest bound down to the minimum, until the goal.
 fn lay_all(
     ws: &mut [u32],
     job: Job,
@@ -264,7 +266,7 @@ fn lay_all(
 {
     let mut sum = totals;
     let mut level = sweep::top(blocks);
-    while job.minimum <= level {
+    while job.minimum <= level && !sweep::at_goal(job, sum) {
         let round = Round { level, totals: sum };
         sum = sweep_rows(ws, job, last, blocks, tiles, round);
         level = buffer::lesser(level - 1, sweep::top(blocks));
@@ -282,7 +284,7 @@ fn prepare(ws: &mut [u32], job: Job, last: &mut usize, blocks: &mut [u32; 64])
     sweep::refresh(ws, job, blocks, PatternAt(0), job.n);
 }
 
-// Lays every tile of at least the minimum, from the state that the workspace holds.
+// Lays every tile of at least the minimum, from the state that the workspace holds, until the goal.
 fn tile_all(ws: &mut [u32], job: Job, tiles: &mut [u32], totals: Totals) -> Totals
     requires { ⌜ Fits job (now ws) (now tiles) totals ⌝ }
     ensures { λ r. ⌜ Finished job (job .minimum) (now (ws .entry)) (now (tiles .entry)) totals (now (ws .exit)) (now (tiles .exit)) r ⌝ }
@@ -322,11 +324,7 @@ pub fn compare(
     if refusal != 0 {
         return ends::refused(refusal);
     }
-    let none = Totals {
-        count: 0,
-        covered: 0,
-    };
-    let job = ends::open(first, second, minimum as usize, workspace);
-    let sum = tile_all(workspace, job, tiles, none);
+    let job = ends::open(first, second, minimum as usize, ends::whole(), workspace);
+    let sum = tile_all(workspace, job, tiles, ends::none(job));
     ends::close(workspace, job, sum)
 }

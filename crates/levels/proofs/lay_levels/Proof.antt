@@ -1,6 +1,8 @@
 -- `levels::lay_levels` meets its contract: at the head of each turn no bound exceeds the level, and a sweep leaves every bound below it.
 -- Assumes nothing.
-use Rattle.levels.proofs.Pass.{Lowering, lowering-none, lowering-sweep, lowering-more, lowering-less, lowering-done}
+use borrow.Author.Tests.{not-true, not-false}
+use Rattle.sweep.proofs.Turn.{few-covered, few-fillable, going-on}
+use Rattle.levels.proofs.Pass.{Lowering, lowering-none, lowering-sweep, lowering-more, lowering-less, lowering-done, lowering-goal}
 use borrow.Author.Needs.{needs}
 use Rattle.levels.proofs.lay_levels.Statement.{statement}
 use Rattle.levels.proofs.lay_levels.Tie as tie
@@ -17,8 +19,11 @@ top-requires c κs = search needs
 loop-holds : tie.Need-loop-holds Inv-loop μ-loop
 loop-holds c = search lowering-none
 
+at-goal-requires : tie.Need-at-goal-requires Inv-loop μ-loop
+at-goal-requires c κs = (search few-covered, search few-fillable)
+
 sweep-rows-requires : tie.Need-sweep-rows-requires Inv-loop μ-loop
-sweep-rows-requires c κs = (search lowering-sweep, search needs, search needs, search needs, search needs)
+sweep-rows-requires c κs = (search (lowering-sweep, going-on, not-true), search needs, search needs, search needs, search needs)
 
 sub-lesser : tie.Need-sub-lesser Inv-loop μ-loop
 sub-lesser c = search needs
@@ -42,7 +47,16 @@ same-length-2 : tie.Need-same-length-2 Inv-loop μ-loop
 same-length-2 c = search needs
 
 returns : tie.Need-returns Inv-loop μ-loop
-returns c = search lowering-done
+returns c = search (lowering-goal, not-false)
+
+same-length-3 : tie.Need-same-length-3 Inv-loop μ-loop
+same-length-3 c = search needs
+
+same-length-4 : tie.Need-same-length-4 Inv-loop μ-loop
+same-length-4 c = search needs
+
+returns-2 : tie.Need-returns-2 Inv-loop μ-loop
+returns-2 c = search lowering-done
 
 pub lay-levels-spec : {M : Type 1} → statement M
 lay-levels-spec =
@@ -52,6 +66,7 @@ lay-levels-spec =
     μ-loop
     top-requires
     loop-holds
+    at-goal-requires
     sweep-rows-requires
     sub-lesser
     top-requires-2
@@ -60,4 +75,7 @@ lay-levels-spec =
     loop-again
     same-length
     same-length-2
-    returns)
+    returns
+    same-length-3
+    same-length-4
+    returns-2)

@@ -12,7 +12,7 @@ find-requires : tie.Need-find-requires
 find-requires c κs = (search needs, search needs, search needs, search needs, search needs, search row-upper)
 
 settle-requires : tie.Need-settle-requires
-settle-requires c κs = (search row-entered, search needs, search needs, search row-searched)
+settle-requires c κs = (search row-entered, search needs, search needs, search needs, search row-searched)
 
 same-length : tie.Need-same-length
 same-length c = search needs
