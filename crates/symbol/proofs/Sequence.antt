@@ -1,16 +1,17 @@
 -- A test of each word of a sequence, word by word; and sequences without a retired code, which replacing leaves as they are.
 -- Assumes nothing.
 use Prim.Native.Nat.{ℕ, zero, suc, _≤_, _<_, _+_}
+use native.Mathlib.Nat.{not-suc-le-zero, le-of-suc-le-suc}
 use native.Mathlib.Omega.{arith}
 use native.Mathlib.Numerals.{add-one}
-use mathlib.Core.Path.{_≡_, refl, sym, _∙_, ap}
-use mathlib.Core.Bool.{Bool, true, not, _&&_, and-assoc, and-true}
+use mathlib.Core.Path.{_≡_, refl, sym, _∙_, ap, subst}
+use mathlib.Core.Bool.{Bool, true, false, not, _&&_, and-assoc, and-true}
 use mathlib.Core.List.{List, [], _∷_, _++_, map}
 use borrow.Author.Tests.{not-true}
 use lib.ListN.{length, take, drop, getD, List·getD-map}
 use lib.Seq.{take-suc, take-all}
-use Rattle.symbol.specs.Word.{isRetired, replaced}
-use Rattle.symbol.specs.Sequence.{every, noneRetired, Current}
+use Rattle.symbol.specs.Word.{kind, low, isCall, isNoCall, isSound, isRetired, replaced}
+use Rattle.symbol.specs.Sequence.{every, allSound, noneRetired, Current}
 use Rattle.symbol.proofs.Word.{and-left, and-right}
 use Rattle.symbol.proofs.Retired.{replaced-none, replaced-below, replaced-twice}
 
@@ -39,6 +40,24 @@ module _ (test : ℕ → Bool) where
 
   pub passed-all : (s : List ℕ) (i : ℕ) (all : Bool) → Passed s i all → length s ≤ i → all ≡ every test s
   passed-all s i all r h = rw (take-all i s h) at (r .held)
+
+  -- Each word of a list that passes does.
+  pub every-at : (s : List ℕ) → every test s ≡ true → (i : ℕ) → i < length s → test (getD s i 0) ≡ true
+  unfolding every
+  every-at [] e i h = absurd (not-suc-le-zero h)
+  every-at (w ∷ ws) e zero h = and-left _ _ e
+  every-at (w ∷ ws) e (suc i) h = every-at ws (and-right (test w) _ e) i (le-of-suc-le-suc h)
+
+-- So no word of a sound sequence is 0.
+zero-unsound : isSound 0 ≡ false
+unfolding isSound isCall isNoCall kind low
+zero-unsound = refl
+
+pub sound-not-zero : (s : List ℕ) → allSound s ≡ true → (i : ℕ) → i < length s → getD s i 0 ≡ 0 → ⊥
+sound-not-zero s e i h z =
+    let f : true ≡ false = sym (subst (λ w. isSound w ≡ true) z (every-at isSound s e i h)) ∙ zero-unsound in
+    let c : _≡_ {A = ℕ} 0 1 = cc in
+    omega arith
 
 -- The contrary of a test.
 pub unlike : (r t : Bool) → r ≡ t → not r ≡ not t

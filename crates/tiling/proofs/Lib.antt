@@ -5,7 +5,6 @@ pub mod Run
 pub mod Tally
 pub mod Peak
 pub mod Greedy
-pub mod Until
 pub mod Best
 pub mod Marked
 pub mod Covered
@@ -13,6 +12,7 @@ pub mod Tiling
 pub mod Left
 pub mod Codes
 pub mod Replaced
+pub mod Until
 pub mod Choice
 pub mod Itself
 pub mod Demand

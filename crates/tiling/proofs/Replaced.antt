@@ -10,12 +10,13 @@ use mathlib.Core.Bool.{Bool, true, false}
 use mathlib.Core.List.{List, [], _∷_, map}
 use lib.Dec.{leb}
 use lib.ListN.{length, drop, length-map}
-use Rattle.symbol.specs.Word.{replaced, equalCalls, matches}
+use Rattle.symbol.specs.Word.{isRetired, replaced, equalCalls, matches}
 use Rattle.symbol.specs.Sequence.{Current}
-use Rattle.symbol.proofs.Retired.{replaced-below}
+use Rattle.symbol.proofs.Retired.{replaced-below, replaced-none, replaced-some}
 use Rattle.symbol.proofs.Sequence.{drop-replaced, current-replaced}
 use Rattle.window.specs.Hash.{wordsHash, hash}
 use Rattle.tiling.specs.Run.{leading, run, equalRun, mark}
+use Rattle.tiling.specs.Stretch.{stretchesAfter, sumLong, fillable}
 use Rattle.tiling.specs.Greedy.{peak, greedy}
 use Rattle.tiling.specs.Demand.{isCallWith, callsWith, smallerCounts}
 use Rattle.tiling.specs.Choice.{firstIsPattern}
@@ -55,12 +56,36 @@ counts-same n first second =
     smaller-same (map replaced first) (map replaced second) first second (λ c. rw (calls-same c first, calls-same c second) refl) n
 
 -- ---- marking
-mark-replaced : (i n : ℕ) (xs : List ℕ) → mark i n (map replaced xs) ≡ map replaced (mark i n xs)
+pub mark-replaced : (i n : ℕ) (xs : List ℕ) → mark i n (map replaced xs) ≡ map replaced (mark i n xs)
 unfolding mark
 mark-replaced i n [] = refl
 mark-replaced (suc i) n (x ∷ xs) = ap (λ zs. replaced x ∷ zs) (mark-replaced i n xs)
 mark-replaced zero zero (x ∷ xs) = refl
 mark-replaced zero (suc n) (x ∷ xs) = rw (mark-replaced zero n xs, replaced-below 0 (omega arith)) refl
+
+-- ---- free stretches
+-- Only a marked word becomes 0.
+replaced-free : (w : ℕ) → replaced w ≡ 0 → w ≡ 0
+replaced-free w z = go (isRetired w) refl
+  where
+    go : (b : Bool) → isRetired w ≡ b → w ≡ 0
+    go true e = absurd (omega (arith, replaced-some w e, z))
+    go false e = sym (replaced-none w e) ∙ z
+
+stretches-go-on : (a w : ℕ) (ws : List ℕ) → (w ≡ 0 → ⊥) → stretchesAfter a (w ∷ ws) ≡ stretchesAfter (suc a) ws
+unfolding stretchesAfter
+stretches-go-on a zero ws d = absurd (d refl)
+stretches-go-on a (suc w) ws d = refl
+
+stretches-replaced : (a : ℕ) (ws : List ℕ) → stretchesAfter a (map replaced ws) ≡ stretchesAfter a ws
+unfolding stretchesAfter
+stretches-replaced a [] = refl
+stretches-replaced a (zero ∷ ws) = rw (replaced-below 0 (omega arith)) (ap (λ ns. a ∷ ns) (stretches-replaced 0 ws))
+stretches-replaced a (suc w ∷ ws) =
+    stretches-go-on a (replaced (suc w)) (map replaced ws) (λ z. absurd (omega (arith, replaced-free (suc w) z))) ∙ stretches-replaced (suc a) ws
+
+pub fillable-replaced : (minimum : ℕ) (ws : List ℕ) → fillable minimum (map replaced ws) ≡ fillable minimum ws
+fillable-replaced minimum ws = ap (sumLong minimum) (stretches-replaced 0 ws)
 
 lay-replaced : (s : State) (k : Tile) → lay (replacedIn s) k ≡ replacedIn (lay s k)
 unfolding lay

@@ -5,8 +5,8 @@ pub mod Greedy
 pub mod Tiling
 pub mod Choice
 pub mod Stretch
-pub mod Until
 pub mod Listing
+pub mod Until
 pub mod Comparing
 pub mod Answer
 pub mod Known

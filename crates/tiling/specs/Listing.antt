@@ -20,6 +20,11 @@ straight k = record { first = k .p; second = k .t; len = k .len }
 abbrev pub crossed : Tile → Entry
 crossed k = record { first = k .t; second = k .p; len = k .len }
 
+-- Where a listed tile starts on the pattern, which is the first sequence where the flag is true.
+abbrev pub startOnPattern : Bool → Entry → ℕ
+startOnPattern true e = e .first
+startOnPattern false e = e .second
+
 -- What a tiling of pattern and text lays for two sequences, of which the first or the second is the pattern.
 abbrev pub listedBy : Bool → (State → List Tile) → List ℕ → List ℕ → List Entry
 listedBy true tiles first second = map straight (tiles (start first second))

@@ -3,6 +3,8 @@ use Prim.Native.Nat.{ℕ, _+_}
 use mathlib.Core.Bool.{Bool, true, false}
 use mathlib.Core.List.{List, [], _∷_}
 use Rattle.tiling.specs.Run.{mark}
+use Rattle.tiling.specs.Choice.{firstIsPattern, patternOf}
+use Rattle.tiling.specs.Listing.{Entry, startOnPattern, listing}
 
 -- How far a comparison has come: how many words its tiles cover, and the pattern with these marked.
 pub record Far : Type 0 where
@@ -22,3 +24,8 @@ module _ {K : Type 0} (at size : K → ℕ) (stop : Far → Bool) where
   unfoldable pub until : Far → List K → List K
   until f [] = []
   until f (k ∷ ks) = elim (stop f) [ true ↦ [] | false ↦ k ∷ until (further f (at k) (size k)) ks ]
+
+-- The first tiles of the listing of two sequences.
+abbrev pub firstListed : (Far → Bool) → List ℕ → List ℕ → ℕ → List Entry
+firstListed stop first second minimum =
+    until (startOnPattern (firstIsPattern first second)) (λ e. e .len) stop (unlaid (patternOf first second)) (listing first second minimum)
