@@ -1,3 +1,4 @@
 pub mod Choosing
 pub mod Opening
+pub mod Ending
 pub mod Closing

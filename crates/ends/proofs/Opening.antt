@@ -1,37 +1,34 @@
--- From two sequences to the listing of their tiles. Pattern and text are copied to the start of the workspace, their words replaced, so the
--- first state is theirs but for retired calls; nothing as long as the minimum is left at the end, so what was laid is what the greedy choice
--- lays, and that is the tiling, of the replaced words and so of the words.
+-- From two sequences to the first state of a comparison. Pattern and text are copied to the start of the workspace, their words replaced, so
+-- the first state is theirs but for retired calls, and all words are free.
 -- Assumes nothing.
 use Prim.Native.Nat.{ℕ, _+_, _-_, _≤_, _<_, min}
-use native.Mathlib.Nat.{mul-le-mul-left, mul-one}
 use native.Mathlib.Omega.{arith}
 use mathlib.Core.Path.{_≡_, refl, sym, _∙_, ap, subst}
 use mathlib.Core.Bool.{Bool, true, false}
-use mathlib.Core.List.{List, [], _++_, map, append-assoc, append-nil}
+use mathlib.Core.List.{List, _++_, map, append-assoc}
 use lib.ListN.{length, take, drop, getD, set, length-take, length-map}
 use lib.Seq.{take-at, drop-at}
 use Rattle.symbol.specs.Word.{isCall, replaced}
-use Rattle.symbol.specs.Sequence.{noneRetired}
-use Rattle.symbol.proofs.Sequence.{getD-replaced, none-current}
+use Rattle.symbol.specs.Sequence.{allSound, noneRetired}
+use Rattle.symbol.proofs.Sequence.{getD-replaced, none-current, sound-not-zero}
 use Rattle.buffer.specs.Buffer.{onto}
 use Rattle.buffer.proofs.Buffer.{onto-part, Copied, copied-none, copied-more, copied-all}
-use Rattle.tiling.specs.Tiling.{start, best, size, lay, tiling, replacedIn, AllCurrent}
-use Rattle.tiling.specs.Greedy.{Greedy, done}
-use Rattle.tiling.specs.Comparing.{Comparable, Roomy}
-use Rattle.tiling.specs.Choice.{firstIsPattern}
-use Rattle.tiling.specs.Listing.{listing, tileWords, covered}
+use Rattle.tiling.specs.Tiling.{State, start, tiling, replacedIn, AllCurrent}
+use Rattle.tiling.specs.Comparing.{Comparable}
+use Rattle.tiling.specs.Choice.{firstIsPattern, patternOf, textOf}
+use Rattle.tiling.specs.Stretch.{ifLong, fillable}
+use Rattle.tiling.specs.Listing.{listing}
 use Rattle.tiling.proofs.Tally.{tally-length}
-use Rattle.tiling.proofs.Greedy.{only}
 use Rattle.tiling.proofs.Choice.{first-shorter, second-shorter}
-use Rattle.tiling.proofs.Tiling.{tiling-greedy}
-use Rattle.tiling.proofs.Replaced.{tiling-replaced, current-start}
+use Rattle.tiling.proofs.Replaced.{current-start, fillable-replaced}
 use Rattle.tile.specs.Listed.{listed}
 use Rattle.sweep.specs.Workspace.{state}
-use Rattle.sweep.specs.Progress.{Fits, Laid, Finished}
+use Rattle.stretch.proofs.Fillable.{fillable-all}
+use Rattle.sweep.specs.Progress.{Fits}
+use Rattle.sweep.specs.declared.Goal.{Goal}
 use Rattle.sweep.specs.declared.Job.{Job}
-use Rattle.sweep.specs.declared.Totals.{Totals}
-use Rattle.ends.specs.Ends.{patternOf, textOf, Opened, noTiles}
-use Rattle.ends.specs.Result.{Listed}
+use Rattle.ends.specs.Ends.{Opened, noTiles}
+use Rattle.ends.specs.Result.{Room}
 
 -- ---- copying in
 pub copied-in : (pattern text ws ws₁ part : List ℕ) → ws₁ ≡ onto (map replaced pattern) ws → part ≡ onto (map replaced text) (take (length pattern + length text - length pattern) (drop (length pattern) ws₁)) → take (length pattern) ws₁ ++ (part ++ drop (length pattern + length text - length pattern) (drop (length pattern) ws₁)) ≡ onto (map replaced pattern ++ map replaced text) ws
@@ -53,14 +50,14 @@ pub copied-whole : (words b₀ b : List ℕ) (i : ℕ) → Copied (map replaced 
 copied-whole words b₀ b i r h = copied-all (map replaced words) b₀ b i r (rw (length-map words replaced) h)
 
 -- ---- which sequence is the pattern
-module _ (first second : List ℕ) (minimum : ℕ) (b : Bool) (e : b ≡ firstIsPattern first second) (ws ws' : List ℕ) where
-  pub opened-first : b ≡ true → ws' ≡ onto (map replaced first ++ map replaced second) ws → Opened first second minimum ws (record { n = length first; m = length second; minimum = minimum; straight = true }) ws'
+module _ (first second : List ℕ) (minimum : ℕ) (goal : Goal) (b : Bool) (e : b ≡ firstIsPattern first second) (ws ws' : List ℕ) where
+  pub opened-first : b ≡ true → ws' ≡ onto (map replaced first ++ map replaced second) ws → Opened first second minimum goal ws (record { n = length first; m = length second; minimum = minimum; straight = true; goal = goal }) ws'
   unfolding patternOf textOf
   opened-first k c =
       let is : firstIsPattern first second ≡ true = sym e ∙ k in
       record { job = rw (patternOf, textOf, is) refl; copied = rw (patternOf, textOf, is) c }
 
-  pub opened-second : b ≡ false → ws' ≡ onto (map replaced second ++ map replaced first) ws → Opened first second minimum ws (record { n = length second; m = length first; minimum = minimum; straight = false }) ws'
+  pub opened-second : b ≡ false → ws' ≡ onto (map replaced second ++ map replaced first) ws → Opened first second minimum goal ws (record { n = length second; m = length first; minimum = minimum; straight = false; goal = goal }) ws'
   unfolding patternOf textOf
   opened-second k c =
       let is : firstIsPattern first second ≡ false = sym e ∙ k in
@@ -81,7 +78,7 @@ module _ (first second : List ℕ) where
       go false e = record { shorter = rw (patternOf, e) (omega (arith, second-shorter first second e)); together = rw (patternOf, textOf, e) (omega arith) }
 
   -- The listing is the tiling of pattern and text, each tile listed by which of them was first.
-  listing-is : (minimum : ℕ) → listing first second minimum ≡ map (listed (firstIsPattern first second)) (tiling minimum (start (patternOf first second) (textOf first second)))
+  pub listing-is : (minimum : ℕ) → listing first second minimum ≡ map (listed (firstIsPattern first second)) (tiling minimum (start (patternOf first second) (textOf first second)))
   unfolding listing patternOf textOf
   listing-is minimum = go (firstIsPattern first second) refl
     where
@@ -106,7 +103,16 @@ copied-state pattern text j n m ws = λ i. record { pattern = on-pattern i; text
     on-text : take (j .m) (drop (j .n) (onto (pattern ++ text) ws)) ≡ text
     on-text = rw (whole, drop-at pattern (text ++ rest) (j .n) (sym n)) (take-at text rest (j .m) (sym m))
 
-module _ (first second : List ℕ) (minimum : ℕ) (ws b : List ℕ) (c : Comparable first second minimum) (room : Roomy (length first) (length second) minimum (length ws) (length b)) where
+-- The pattern is one of two sound sequences, so its words are free.
+pattern-sound : (first second : List ℕ) → allSound first ≡ true → allSound second ≡ true → allSound (patternOf first second) ≡ true
+unfolding patternOf
+pattern-sound first second e k = go (firstIsPattern first second) refl
+  where
+    go : (t : Bool) → firstIsPattern first second ≡ t → allSound (patternOf first second) ≡ true
+    go true t = rw (patternOf, t) e
+    go false t = rw (patternOf, t) k
+
+module _ (first second : List ℕ) (minimum : ℕ) (goal : Goal) (ws b : List ℕ) (c : Comparable first second minimum) (room : Room (length first) (length second) minimum goal (length ws) (length b)) where
   abbrev pattern : List ℕ
   pattern = patternOf first second
 
@@ -116,9 +122,15 @@ module _ (first second : List ℕ) (minimum : ℕ) (ws b : List ℕ) (c : Compar
   pub open-room : length first + length second ≤ length ws
   open-room = omega (arith, room .work-room)
 
-  module _ (j : Job) (ws₁ : List ℕ) (o : Opened first second minimum ws j ws₁) where
+  -- All words of the pattern are free.
+  all-free : fillable minimum (map replaced pattern) ≡ ifLong minimum (length pattern)
+  all-free =
+      fillable-replaced minimum pattern
+      ∙ fillable-all minimum pattern (sound-not-zero pattern (pattern-sound first second (c .first-sound) (c .second-sound)))
+
+  module _ (j : Job) (ws₁ : List ℕ) (o : Opened first second minimum goal ws j ws₁) where
     -- The comparison starts from the replaced words.
-    first-state : state j ws₁ ≡ replacedIn (start pattern text)
+    pub first-state : state j ws₁ ≡ replacedIn (start pattern text)
     first-state =
         ap (state j) (o .copied)
         ∙ copied-state (map replaced pattern) (map replaced text) j
@@ -127,54 +139,23 @@ module _ (first second : List ℕ) (minimum : ℕ) (ws b : List ℕ) (c : Compar
         ws
 
     -- Nothing is laid, so everything fits.
-    pub opened-fits : length ws₁ ≡ length ws → Fits j ws₁ b noTiles
+    pub opened-fits : length ws₁ ≡ length ws → Fits j ws₁ b (noTiles j)
     opened-fits same =
         let l = chosen-lengths first second in
         let current : AllCurrent (state j ws₁) = subst AllCurrent (sym first-state) (current-start pattern text) in
+        let left : ifLong minimum (length pattern) ≡ fillable minimum (state j ws₁ .pattern) =
+        sym all-free ∙ ap (λ (u : State). fillable minimum (u .pattern)) (sym first-state) in
         rw (o .job)
         (record {
           space = record { short-pattern = omega (arith, l .shorter, c .first-short); short-text = omega (arith, l .shorter, l .together, c .first-short, c .second-short); roomy = omega (arith, l .together, room .work-room, same); current = rw (o .job) at current };
           least = c .least;
           most = c .most;
-          tile-room = rw (l .shorter) (room .tile-room);
+          tile-room = λ t. rw (l .shorter) (room .tile-room t);
           each = omega arith;
           free = omega (arith, tally-length isCall (take (length pattern) ws₁), length-take (length pattern) ws₁);
+          left = rw (o .job) at left;
         })
 
-    -- ---- the end
-    nothing-laid : Laid j (replacedIn (start pattern text)) b ws₁ b noTiles
-    unfolding tileWords covered
-    nothing-laid =
-        record {
-          tiles = [];
-          rest = λ ls g. subst (λ u. Greedy best size lay (j .minimum) u ls) first-state g;
-          held = refl;
-          counted = refl;
-          summed = refl;
-        }
-
-    pub all-listed : (ws₂ b' : List ℕ) (k : Totals) → Finished j (j .minimum) ws₁ b noTiles ws₂ b' k → Listed (listing first second minimum) b b' k
-    all-listed ws₂ b' k f =
-        let s = replacedIn (start pattern text) in
-        let l = f .onward .keeps s b nothing-laid in
-        let least : j .minimum ≡ minimum = ap (λ x. x .minimum) (o .job) in
-        let straight : j .straight ≡ firstIsPattern first second = ap (λ x. x .straight) (o .job) in
-        let g : Greedy best size lay (j .minimum) s (l .tiles ++ []) = l .rest [] (done (f .short)) in
-        let t : l .tiles ≡ tiling minimum (start pattern text) =
-        sym (append-nil (l .tiles))
-        ∙ (only (subst (λ x. Greedy best size lay x s (l .tiles ++ [])) least g) (tiling-greedy minimum (c .least) s)
-        ∙ tiling-replaced minimum (start pattern text)) in
-        let all : map (listed (j .straight)) (l .tiles) ≡ listing first second minimum = rw (t, straight) (sym (listing-is first second minimum)) in
-        record {
-          held = rw (← all) (l .held);
-          counted = rw (← all) (l .counted ∙ sym (length-map (l .tiles) (listed (j .straight))));
-          summed = rw (← all) (l .summed);
-        }
-
--- What was laid is small: each tile has a word or more, and none is covered twice.
-module _ (j : Job) (s : ℕ) (ws₀ b₀ : List ℕ) (k₀ : Totals) (ws b : List ℕ) (k : Totals) (f : Finished j s ws₀ b₀ k₀ ws b k) where
-  pub few-tiles : k .count ≤ 2048
-  few-tiles = omega (arith, mul-le-mul-left (k .count) (f .fits .least), mul-one (k .count), f .fits .each, f .fits .free, f .fits .space .short-pattern)
-
-  pub few-covered : k .covered ≤ 2048
-  few-covered = omega (arith, f .fits .free, f .fits .space .short-pattern)
+-- The record of a comparison that was just opened.
+pub unlaid-is : (j : Job) (n : ℕ) → n ≡ ifLong (j .minimum) (j .n) → record { count = 0; covered = 0; fillable = n } ≡ noTiles j
+unlaid-is j n e = ap (λ x. record { count = 0; covered = 0; fillable = x }) e

@@ -1,43 +1,51 @@
 -- The two ends of a comparison: what it starts from, and what it answers. No reader of the engines' contracts needs these.
-use Prim.Native.Nat.{ℕ, _+_}
+use Prim.Native.Nat.{ℕ}
+use mathlib.Core.Bool.{true}
 use mathlib.Core.Path.{_≡_}
 use mathlib.Core.List.{List, _++_, map}
 use lib.ListN.{length, replicate}
 use Rattle.symbol.specs.Word.{replaced}
 use Rattle.buffer.specs.Buffer.{onto}
 use Rattle.tiling.specs.Choice.{firstIsPattern, patternOf, textOf}
+use Rattle.tiling.specs.Stretch.{ifLong}
 use Rattle.tiling.specs.Listing.{score}
 use Rattle.tiling.specs.declared.Compared.{Compared}
+use Rattle.sweep.specs.declared.Goal.{Goal}
 use Rattle.sweep.specs.declared.Job.{Job}
 use Rattle.sweep.specs.declared.Totals.{Totals}
 
--- The job of two sequences at a minimum.
-abbrev pub jobOf : List ℕ → List ℕ → ℕ → Job
-jobOf first second minimum =
+-- The goal of a whole comparison. None covers more than 2,048 words, so that it is never reached.
+abbrev pub wholeGoal : Goal
+wholeGoal = record { listed = true; enough = 2049; needed = 0 }
+
+-- The job of two sequences at a minimum, with a goal.
+abbrev pub jobOf : List ℕ → List ℕ → ℕ → Goal → Job
+jobOf first second minimum goal =
     record {
       n = length (patternOf first second);
       m = length (textOf first second);
       minimum = minimum;
       straight = firstIsPattern first second;
+      goal = goal;
     }
 
 -- A comparison was opened: its job, and the workspace, which begins with the replaced words of pattern and text.
-pub record Opened (first second : List ℕ) (minimum : ℕ) (ws : List ℕ) (j : Job) (ws' : List ℕ) : Type 0 where
-  pub job : j ≡ jobOf first second minimum
+pub record Opened (first second : List ℕ) (minimum : ℕ) (goal : Goal) (ws : List ℕ) (j : Job) (ws' : List ℕ) : Type 0 where
+  pub job : j ≡ jobOf first second minimum goal
   pub copied : ws' ≡ onto (map replaced (patternOf first second) ++ map replaced (textOf first second)) ws
 
--- Nothing is laid yet.
-abbrev pub noTiles : Totals
-noTiles = record { count = 0; covered = 0 }
+-- Nothing is laid yet, and all words are free.
+abbrev pub noTiles : Job → Totals
+noTiles j = record { count = 0; covered = 0; fillable = ifLong (j .minimum) (j .n) }
 
 -- The answer of a refusal, and that of tiles that were laid.
 abbrev pub refusedBy : ℕ → Compared
 refusedBy r = record { refusal = r; tiles = 0; covered = 0; score = 0 }
 
-abbrev pub answerOf : Job → Totals → Compared
-answerOf j k = record { refusal = 0; tiles = k .count; covered = k .covered; score = score (k .covered) (j .n + j .m) }
+abbrev pub answerOf : ℕ → Totals → Compared
+answerOf total k = record { refusal = 0; tiles = k .count; covered = k .covered; score = score (k .covered) total }
 
 -- A comparison was closed: its answer, and the workspace, which is zero.
-pub record Closed (j : Job) (k : Totals) (ws : List ℕ) (a : Compared) (ws' : List ℕ) : Type 0 where
-  pub answer : a ≡ answerOf j k
+pub record Closed (total : ℕ) (k : Totals) (ws : List ℕ) (a : Compared) (ws' : List ℕ) : Type 0 where
+  pub answer : a ≡ answerOf total k
   pub cleared : ws' ≡ replicate (length ws) 0

@@ -1,17 +1,18 @@
 // The two ends of a comparison, the same for both engines. Before it the pattern is chosen, and both sequences are copied to the
 // workspace; after it the workspace is cleared and the answer made. What lies between goes from one state of the workspace to
 // another and knows nothing of either.
+use sweep::Goal;
 use sweep::Job;
 use sweep::Totals;
 use tiling::Compared;
 ghost use mathlib.Core.Path.{_≡_};
 ghost use mathlib.Core.List.{_++_, map};
 ghost use Prim.Native.Nat.{_+_, _≤_};
-ghost use lib.ListN.{length};
+ghost use lib.ListN.{length, replicate};
 ghost use Rattle.symbol.specs.Word.{replaced};
 ghost use Rattle.buffer.specs.Buffer.{onto};
 ghost use Rattle.tiling.specs.Choice.{firstIsPattern};
-ghost use Rattle.ends.specs.Ends.{Opened, refusedBy, Closed};
+ghost use Rattle.ends.specs.Ends.{wholeGoal, Opened, noTiles, refusedBy, Closed};
 
 // Whether the first sequence is the pattern: the shorter one is, and of equal lengths the one with the smaller word, as it stands, at the first
 // position where they differ. Of equal sequences it is the first.
@@ -60,10 +61,21 @@ fn copy_in(pattern: &[u32], text: &[u32], ws: &mut [u32])
     copy_replaced(text, &mut ws[n..end]);
 }
 
+// The goal of a whole comparison: its tiles are listed, and no comparison covers enough words to stop it.
+pub fn whole() -> Goal
+    ensures { λ r. ⌜ r ≡ wholeGoal ⌝ }
+{
+    Goal {
+        listed: true,
+        enough: 2049,
+        needed: 0,
+    }
+}
+
 // Chooses the pattern, by the words as handed in, and puts pattern and text to the start of the workspace.
-pub fn open(first: &[u32], second: &[u32], minimum: usize, ws: &mut [u32]) -> Job
+pub fn open(first: &[u32], second: &[u32], minimum: usize, goal: Goal, ws: &mut [u32]) -> Job
     requires { ⌜ length (now first) + length (now second) ≤ length (now ws) ⌝ }
-    ensures { λ r. ⌜ Opened (now (first .entry)) (now (second .entry)) minimum (now (ws .entry)) r (now (ws .exit)) ⌝ }
+    ensures { λ r. ⌜ Opened (now (first .entry)) (now (second .entry)) minimum goal (now (ws .entry)) r (now (ws .exit)) ⌝ }
 {
     if first_is_pattern(first, second) {
         copy_in(first, second, ws);
@@ -72,6 +84,7 @@ pub fn open(first: &[u32], second: &[u32], minimum: usize, ws: &mut [u32]) -> Jo
             m: second.len(),
             minimum,
             straight: true,
+            goal,
         };
     }
     copy_in(second, first, ws);
@@ -80,6 +93,18 @@ pub fn open(first: &[u32], second: &[u32], minimum: usize, ws: &mut [u32]) -> Jo
         m: first.len(),
         minimum,
         straight: false,
+        goal,
+    }
+}
+
+// The record of a comparison that was just opened: nothing is laid, and all words of the pattern are free.
+pub fn unlaid(job: Job) -> Totals
+    ensures { λ r. ⌜ r ≡ noTiles job ⌝ }
+{
+    Totals {
+        count: 0,
+        covered: 0,
+        fillable: stretch::if_long(job.n, job.minimum),
     }
 }
 
@@ -95,16 +120,23 @@ pub fn refused(refusal: u32) -> Compared
     }
 }
 
-// Clears the whole workspace and answers what the tiles come to.
-pub fn close(ws: &mut [u32], job: Job, totals: Totals) -> Compared
-    requires { ⌜ (totals .count ≤ 2048) × (totals .covered ≤ 2048) × (job .n ≤ 2048) × (job .m ≤ 2048) ⌝ }
-    ensures { λ r. ⌜ Closed job totals (now (ws .entry)) r (now (ws .exit)) ⌝ }
+// Clears the whole workspace.
+pub fn clear(ws: &mut [u32])
+    ensures { λ r. ⌜ now (ws .exit) ≡ replicate (length (now (ws .entry))) 0 ⌝ }
 {
     let words = ws.len();
     tile::mark_words(ws, 0, words);
+}
+
+// Clears the whole workspace and answers what the tiles come to, of sequences with total words together.
+pub fn close(ws: &mut [u32], total: usize, totals: Totals) -> Compared
+    requires { ⌜ (totals .count ≤ 2048) × (totals .covered ≤ 2048) × (total ≤ 4096) ⌝ }
+    ensures { λ r. ⌜ Closed total totals (now (ws .entry)) r (now (ws .exit)) ⌝ }
+{
+    clear(ws);
     let tiles = totals.count as u32;
     let covered = totals.covered as u32;
-    let score = tile::score_of(totals.covered, job.n + job.m);
+    let score = tile::score_of(totals.covered, total);
     Compared {
         refusal: 0,
         tiles,

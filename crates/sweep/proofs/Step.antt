@@ -50,7 +50,7 @@ below-level j ws level p s b q t = go (decLt q (j .n))
     go (no h) = omega (arith, past-pattern (state j ws) q t (omega (arith, h, pattern-length j ws s)))
 
 -- The goal by the record is the goal by how far the comparison has come.
-goal-is : (j : Job) (ws b : List ℕ) (k : Totals) → Fits j ws b k → atGoal j k ≡ stopped (j .goal) (j .minimum) (far j ws k)
+pub goal-is : (j : Job) (ws b : List ℕ) (k : Totals) → Fits j ws b k → atGoal j k ≡ stopped (j .goal) (j .minimum) (far j ws k)
 unfolding atGoal stopped
 goal-is j ws b k f = ap (λ n. stopsAt (j .goal) (k .covered) n) (f .left)
 
