@@ -13,13 +13,15 @@ use Rattle.buffer.specs.Buffer.{onto}
 use Rattle.tiling.specs.Run.{mark}
 use Rattle.tiling.specs.Listing.{Entry, listing, tileWords, covered, score}
 use Rattle.tiling.specs.Until.{firstListed}
+use Rattle.tiling.specs.Comparing.{Roomy}
 use Rattle.tiling.specs.Answer.{Compares}
 use Rattle.tiling.specs.declared.Compared.{Compared}
 use Rattle.tile.proofs.Marking.{mark-all}
 use Rattle.sweep.specs.Goal.{stopsAt, stopped}
+use Rattle.sweep.specs.declared.Goal.{Goal}
 use Rattle.sweep.specs.declared.Totals.{Totals}
 use Rattle.ends.specs.Ends.{wholeGoal, refusedBy, Closed}
-use Rattle.ends.specs.Result.{Ran}
+use Rattle.ends.specs.Result.{Room, Ran}
 
 -- The workspace cleared, and the numbers of the tiles.
 pub cleared-all : (ws ws' : List ℕ) → ws' ≡ mark 0 (length ws) ws → ws' ≡ replicate (length ws) 0
@@ -31,6 +33,10 @@ closed-all total k ws ws' s e p = record { answer = rw p refl; cleared = e }
 -- The goal of a whole comparison is never reached.
 pub never : (c n : ℕ) → c ≤ 2048 → stopsAt wholeGoal c n ≡ false
 never c n h = rw (lt-leb 2049 c (omega arith), le-ltb (c + n) 0 (omega arith)) refl
+
+-- The room that a whole comparison asks for.
+pub whole-room : (first second minimum workspace tiles : ℕ) → Roomy first second minimum workspace tiles → (g : Goal) → g ≡ wholeGoal → Room first second minimum g workspace tiles
+whole-room first second minimum workspace tiles r g w = record { work-room = r .work-room; tile-room = λ t. r .tile-room }
 
 module _ (first second : List ℕ) (minimum : ℕ) (ws b : List ℕ) (r q : ℕ) (e : r ≡ q) where
   abbrev tiles : List Entry
@@ -54,8 +60,9 @@ module _ (first second : List ℕ) (minimum : ℕ) (ws b : List ℕ) (r q : ℕ)
   pub compare-passed : r ≡ 0 → (a : Compared) (ws' b' : List ℕ) → Compares 0 first second minimum ws b a ws' b' → Compares q first second minimum ws b a ws' b'
   compare-passed z a ws' b' c = subst (λ n. Compares n first second minimum ws b a ws' b') (sym z ∙ e) c
 
-  pub compare-accepted : r ≡ 0 → (b' : List ℕ) (k : Totals) → Ran first second minimum wholeGoal b b' k → (ws₂ : List ℕ) → length ws₂ ≡ length ws → (a : Compared) (ws₃ : List ℕ) → Closed (length first + length second) k ws₂ a ws₃ → Compares q first second minimum ws b a ws₃ b'
-  compare-accepted z b' k n ws₂ same a ws₃ d =
+  pub compare-accepted : r ≡ 0 → (g : Goal) → g ≡ wholeGoal → (b' : List ℕ) (k : Totals) → Ran first second minimum g b b' k → (ws₂ : List ℕ) → length ws₂ ≡ length ws → (a : Compared) (ws₃ : List ℕ) → Closed (length first + length second) k ws₂ a ws₃ → Compares q first second minimum ws b a ws₃ b'
+  compare-accepted z g w b' k m ws₂ same a ws₃ d =
+      let n : Ran first second minimum wholeGoal b b' k = subst (λ x. Ran first second minimum x b b' k) w m in
       let is : firstListed (stopped wholeGoal minimum) first second minimum ≡ tiles = n .all (never (k .covered) (k .fillable) (n .few-covered)) in
       let counted : k .count ≡ length tiles = n .laid .counted ∙ ap length is in
       let summed : k .covered ≡ covered tiles = n .laid .summed ∙ ap covered is in
@@ -66,5 +73,5 @@ module _ (first second : List ℕ) (minimum : ℕ) (ws b : List ℕ) (r q : ℕ)
       record {
         answer = d .answer ∙ (λ i. record { refusal = (sym z ∙ e) i; tiles = t i; covered = v i; score = s i });
         tiles = given r q e b' (onto (tileWords tiles) b) b z (n .laid .held ∙ ap (λ es. onto (tileWords es) b) is);
-        workspace = given r q e ws₃ (replicate (length ws) 0) ws z (d .cleared ∙ ap (λ m. replicate m 0) same);
+        workspace = given r q e ws₃ (replicate (length ws) 0) ws z (d .cleared ∙ ap (λ x. replicate x 0) same);
       }

@@ -25,14 +25,14 @@ use Rattle.tile.specs.Listed.{listed}
 use Rattle.sweep.specs.Workspace.{state}
 use Rattle.sweep.specs.Goal.{stopsAt, atGoal, stopped, untilGoal}
 use Rattle.sweep.specs.Settled.{settle-by}
-use Rattle.sweep.specs.Progress.{far, Laid, Finished}
+use Rattle.sweep.specs.Progress.{Fits, far, Laid, Finished}
 use Rattle.sweep.specs.declared.Goal.{Goal}
 use Rattle.sweep.specs.declared.Job.{Job}
 use Rattle.sweep.specs.declared.Totals.{Totals}
 use Rattle.sweep.proofs.Step.{goal-is}
 use Rattle.ends.specs.Ends.{Opened, noTiles}
 use Rattle.ends.specs.Result.{Room, Listed, Ran}
-use Rattle.ends.proofs.Opening.{first-state, listing-is}
+use Rattle.ends.proofs.Opening.{first-state, listing-is, opened-fits}
 
 -- ---- tiles as they are listed
 at-same : (t : Bool) (k : Tile) → startOnPattern t (listed t k) ≡ k .p
@@ -147,7 +147,7 @@ module _ (first second : List ℕ) (minimum : ℕ) (goal : Goal) (ws b : List �
     at-goal-is = ap (λ g. stopsAt g (k .covered) (k .fillable)) goal-of
 
     -- Each tile has a word or more, and none is covered twice.
-    pub ran : Ran first second minimum goal b b' k
+    ran : Ran first second minimum goal b b' k
     ran =
         let entries = first-listed in
         let held : b' ≡ settle-by (goal .listed) (onto (tileWords (map (listed (j .straight)) (laid-here .tiles))) b) b =
@@ -162,4 +162,13 @@ module _ (first second : List ℕ) (minimum : ℕ) (goal : Goal) (ws b : List �
           all = λ g. entries ∙ all-listed (at-goal-is ∙ g);
           few-tiles = omega (arith, mul-le-mul-left (k .count) (f .fits .least), mul-one (k .count), f .fits .each, f .fits .free, f .fits .space .short-pattern);
           few-covered = omega (arith, f .fits .free, f .fits .space .short-pattern);
+          few-words = omega (arith, c .first-short, c .second-short);
         }
+
+-- The same where the first record was computed.
+module _ (first second : List ℕ) (minimum : ℕ) (goal : Goal) (ws b : List ℕ) (c : Comparable first second minimum) (room : Room (length first) (length second) minimum goal (length ws) (length b)) (j : Job) (ws₁ : List ℕ) (o : Opened first second minimum goal ws j ws₁) (k₀ : Totals) (none : k₀ ≡ noTiles j) where
+  pub begun : length ws₁ ≡ length ws → Fits j ws₁ b k₀
+  begun same = rw none (opened-fits first second minimum goal ws b c room j ws₁ o same)
+
+  pub ended : (ws₂ b' : List ℕ) (k : Totals) → Finished j (j .minimum) ws₁ b k₀ ws₂ b' k → Ran first second minimum goal b b' k
+  ended ws₂ b' k f = ran first second minimum goal ws b c room j ws₁ o ws₂ b' k (rw none at f)

@@ -23,9 +23,10 @@ pub record Listed (lists : Bool) (tiles : List Entry) (b b' : List ℕ) (k : Tot
   pub counted : k .count ≡ length tiles
   pub summed : k .covered ≡ covered tiles
 
--- The tiles of two sequences were laid until the goal: the first of the listing, and all of it where the goal is not reached. They are few.
+-- The tiles of two sequences were laid until the goal: the first of the listing, and all of it where the goal is not reached. They are few, and so are the words.
 pub record Ran (first second : List ℕ) (minimum : ℕ) (goal : Goal) (b b' : List ℕ) (k : Totals) : Type 0 where
   pub laid : Listed (goal .listed) (firstListed (stopped goal minimum) first second minimum) b b' k
   pub all : stopsAt goal (k .covered) (k .fillable) ≡ false → firstListed (stopped goal minimum) first second minimum ≡ listing first second minimum
   pub few-tiles : k .count ≤ 2048
   pub few-covered : k .covered ≤ 2048
+  pub few-words : length first + length second ≤ 4096

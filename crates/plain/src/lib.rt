@@ -1,5 +1,6 @@
 // The plain engine: any pair of positions may be looked at, and no hash.
 use sweep::Found;
+use sweep::Goal;
 use sweep::Job;
 use sweep::Round;
 use sweep::Totals;
@@ -11,13 +12,14 @@ ghost use mathlib.Core.Bool.{false};
 ghost use Prim.Native.Nat.{_+_, _-_, _≤_, _<_};
 ghost use lib.ListN.{length, drop};
 ghost use Rattle.symbol.specs.Sequence.{Current};
-ghost use Rattle.tiling.specs.Comparing.{plainRefusal};
+ghost use Rattle.tiling.specs.Comparing.{plainRefusal, Comparable};
 ghost use Rattle.sweep.specs.Workspace.{Space, state, bound};
 ghost use Rattle.sweep.specs.Row.{Row};
 ghost use Rattle.sweep.specs.First.{First};
 ghost use Rattle.sweep.specs.Blocks.{Covering};
 ghost use Rattle.sweep.specs.Goal.{atGoal};
 ghost use Rattle.sweep.specs.Progress.{Fits, Searched, UpperFrom, RowBound, Filled, Ready, Falling, Sweeping, Over, Onward, Finished};
+ghost use Rattle.ends.specs.Result.{Room, Ran};
 ghost use Rattle.plain.specs.Promise.{Plain};
 ghost use Rattle.plain.specs.Bounds.{Capped, goesOn};
 ghost use Rattle.plain.specs.Pair.{SideBySide};
@@ -295,6 +297,23 @@ fn tile_all(ws: &mut [u32], job: Job, tiles: &mut [u32], totals: Totals) -> Tota
     lay_all(ws, job, &mut last, &mut blocks, tiles, totals)
 }
 
+// Lays the tiles of two sequences for which no cause of a refusal holds, until a goal.
+fn lay(
+    first: &[u32],
+    second: &[u32],
+    minimum: u32,
+    goal: Goal,
+    workspace: &mut [u32],
+    tiles: &mut [u32],
+) -> Totals
+    requires { ⌜ Comparable (now first) (now second) minimum ⌝ }
+    requires { ⌜ Room (length (now first)) (length (now second)) minimum goal (length (now workspace)) (length (now tiles)) ⌝ }
+    ensures { λ r. ⌜ Ran (now (first .entry)) (now (second .entry)) minimum goal (now (tiles .entry)) (now (tiles .exit)) r ⌝ }
+{
+    let job = ends::open(first, second, minimum as usize, goal, workspace);
+    tile_all(workspace, job, tiles, ends::unlaid(job))
+}
+
 // Why a comparison is refused; 0 where it is not.
 fn plain_refusal(first: &[u32], second: &[u32], minimum: u32, workspace: usize, tiles: usize) -> u32
     ensures { λ r. ⌜ r ≡ plainRefusal (now (first .entry)) (now (second .entry)) minimum workspace tiles ⌝ }
@@ -324,7 +343,6 @@ pub fn compare(
     if refusal != 0 {
         return ends::refused(refusal);
     }
-    let job = ends::open(first, second, minimum as usize, ends::whole(), workspace);
-    let sum = tile_all(workspace, job, tiles, ends::none(job));
-    ends::close(workspace, job, sum)
+    let sum = lay(first, second, minimum, ends::whole(), workspace, tiles);
+    ends::close(workspace, first.len() + second.len(), sum)
 }

@@ -165,6 +165,9 @@ module _ (j : Job) (n : ℕ) (ws₀ b₀ : List ℕ) (k₀ : Totals) (ws b : Lis
   pub level-sweep : n ≤ level → atGoal j k ≡ false → Sweeping j level 0 ws b k
   level-sweep h going = record { fits = l .ready .fits; bounded = unswept going; long = omega (arith, l .enough); within = omega arith }
 
+  pub level-going : n ≤ level → (r : Bool) → r ≡ atGoal j k → r ≡ false → Sweeping j level 0 ws b k
+  level-going h r e f = level-sweep h (sym e ∙ f)
+
   -- After it every bound is below the level, or the goal is reached; and none exceeds the greatest of the blocks.
   pub level-more : (ws' b' : List ℕ) (k' : Totals) (bs' : List ℕ) → Over j level ws' b' k' → Covering j ws' bs' → (top next : ℕ) → Greatest (λ c. getD bs' c 0) 64 top → next ≡ min (level - 1) top → Onward j ws b k ws' b' k' → length ws' ≡ length ws → length b' ≡ length b → Level j n ws₀ b₀ k₀ ws' b' k' bs' next
   level-more ws' b' k' bs' s c top next g e o v w =

@@ -5,8 +5,8 @@ use borrow.Author.Needs.{needs}
 use Rattle.checks.proofs.most_tiles.Statement.{statement}
 use Rattle.checks.proofs.most_tiles.Tie as tie
 
-smaller-requires : tie.Need-smaller-requires
-smaller-requires c κs = search needs
+lesser-requires : tie.Need-lesser-requires
+lesser-requires c κs = search needs
 
 div-result : tie.Need-div-result
 div-result c = search needs
@@ -15,4 +15,4 @@ returns : tie.Need-returns
 returns c = (search most-of, search most-small)
 
 pub most-tiles-spec : {M : Type 1} → statement M
-most-tiles-spec = tie.close (tie.spec smaller-requires div-result returns)
+most-tiles-spec = tie.close (tie.spec lesser-requires div-result returns)

@@ -1,9 +1,8 @@
--- `plain::compare` meets its contract: it branches once, on the refusal's number; where that is 0 the tiles are laid between the two ends, of which the
--- second clears the whole workspace.
+-- `plain::compare` meets its contract: it branches once, on the refusal's number; where that is 0 the tiles are laid, and then the whole workspace is
+-- cleared.
 -- Assumes nothing.
-use Rattle.ends.proofs.Opening.{few-tiles, few-covered}
-use Rattle.ends.proofs.Closing.{compare-refused}
-use Rattle.plain.proofs.Accepted.{plain-room, plain-fits, plain-answers}
+use Rattle.ends.proofs.Closing.{compare-refused, compare-accepted}
+use Rattle.plain.proofs.Accepted.{plain-comparable, plain-room}
 use borrow.Author.Needs.{needs}
 use Rattle.plain.proofs.compare.Statement.{statement}
 use Rattle.plain.proofs.compare.Tie as tie
@@ -17,14 +16,17 @@ refused-requires c κs = search needs
 returns : tie.Need-returns
 returns c = search compare-refused
 
-open-requires : tie.Need-open-requires
-open-requires c κs = search plain-room
+whole-requires : tie.Need-whole-requires
+whole-requires c κs = search needs
 
-tile-all-requires : tie.Need-tile-all-requires
-tile-all-requires c κs = search plain-fits
+lay-requires : tie.Need-lay-requires
+lay-requires c κs = (search plain-comparable, search plain-room)
+
+add-close : tie.Need-add-close
+add-close c = search needs
 
 close-requires : tie.Need-close-requires
-close-requires c κs = (search few-tiles, search few-covered, search needs, search needs)
+close-requires c κs = (search needs, search needs, search needs)
 
 same-length : tie.Need-same-length
 same-length c = search needs
@@ -33,7 +35,7 @@ same-length-2 : tie.Need-same-length-2
 same-length-2 c = search needs
 
 returns-2 : tie.Need-returns-2
-returns-2 c = search plain-answers
+returns-2 c = search compare-accepted
 
 pub compare-spec : {M : Type 1} → statement M
 compare-spec =
@@ -42,8 +44,9 @@ compare-spec =
     plain-refusal-requires
     refused-requires
     returns
-    open-requires
-    tile-all-requires
+    whole-requires
+    lay-requires
+    add-close
     close-requires
     same-length
     same-length-2

@@ -1,8 +1,9 @@
 -- `plain::sweep_rows` meets its contract: each turn takes the sweep over one row whose bound is the level, and over those up to the next.
 -- Assumes nothing.
 use Prim.Native.Nat.{_-_}
-use Rattle.sweep.proofs.Turn.{Swept, swept-none, swept-row, swept-more, swept-all}
+use borrow.Author.Tests.{not-true, not-false}
 use Rattle.sweep.proofs.First.{first-rises}
+use Rattle.sweep.proofs.Turn.{few-covered, few-fillable, going-on, Swept, swept-none, swept-row, swept-more, swept-all, swept-goal}
 use borrow.Author.Needs.{needs}
 use Rattle.plain.proofs.sweep_rows.Statement.{statement}
 use Rattle.plain.proofs.sweep_rows.Tie as tie
@@ -19,11 +20,14 @@ next-row-requires c κs = search needs
 loop-holds : tie.Need-loop-holds Inv-loop μ-loop
 loop-holds c = search swept-none
 
-step-requires : tie.Need-step-requires Inv-loop μ-loop
-step-requires c κs = (search swept-row, search needs, search needs)
+at-goal-requires : tie.Need-at-goal-requires Inv-loop μ-loop
+at-goal-requires c κs = (search few-covered, search few-fillable)
 
-add-t24 : tie.Need-add-t24 Inv-loop μ-loop
-add-t24 c = search needs
+step-requires : tie.Need-step-requires Inv-loop μ-loop
+step-requires c κs = (search swept-row, search (going-on, not-true), search needs, search needs)
+
+add-t26 : tie.Need-add-t26 Inv-loop μ-loop
+add-t26 c = search needs
 
 next-row-requires-2 : tie.Need-next-row-requires-2 Inv-loop μ-loop
 next-row-requires-2 c κs = search needs
@@ -41,7 +45,16 @@ same-length-2 : tie.Need-same-length-2 Inv-loop μ-loop
 same-length-2 c = search needs
 
 returns : tie.Need-returns Inv-loop μ-loop
-returns c = (search swept-all, (search needs, search needs))
+returns c = (search (swept-goal, not-false), (search needs, search needs))
+
+same-length-3 : tie.Need-same-length-3 Inv-loop μ-loop
+same-length-3 c = search needs
+
+same-length-4 : tie.Need-same-length-4 Inv-loop μ-loop
+same-length-4 c = search needs
+
+returns-2 : tie.Need-returns-2 Inv-loop μ-loop
+returns-2 c = (search swept-all, (search needs, search needs))
 
 pub sweep-rows-spec : {M : Type 1} → statement M
 sweep-rows-spec =
@@ -51,11 +64,15 @@ sweep-rows-spec =
     μ-loop
     next-row-requires
     loop-holds
+    at-goal-requires
     step-requires
-    add-t24
+    add-t26
     next-row-requires-2
     loop-less
     loop-again
     same-length
     same-length-2
-    returns)
+    returns
+    same-length-3
+    same-length-4
+    returns-2)

@@ -12,7 +12,7 @@ find-requires : tie.Need-find-requires
 find-requires c κs = (search needs, search needs, search needs, search needs, search sweeping-least, search needs, search sweeping-upper)
 
 settle-requires : tie.Need-settle-requires
-settle-requires c κs = (search sweeping-entered, search needs, search needs, search needs)
+settle-requires c κs = (search sweeping-entered, search needs, search needs, search needs, search needs)
 
 same-length : tie.Need-same-length
 same-length c = search needs
