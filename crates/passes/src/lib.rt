@@ -4,11 +4,13 @@ use index::Pass;
 use sweep::Totals;
 use tile::PatternAt;
 ghost use mathlib.Core.Path.{_≡_};
+ghost use mathlib.Core.Bool.{false};
 ghost use Prim.Native.Nat.{_<_};
 ghost use lib.ListN.{replicate};
 ghost use Rattle.tiling.specs.Tiling.{best};
 ghost use Rattle.sweep.specs.Workspace.{Space, state};
 ghost use Rattle.sweep.specs.Blocks.{Covering};
+ghost use Rattle.sweep.specs.Goal.{atGoal};
 ghost use Rattle.sweep.specs.Progress.{Fits, Finished};
 ghost use Rattle.index.specs.Indexed.{Ranges};
 ghost use Rattle.rows.specs.Reached.{FilledRows};
@@ -45,7 +47,7 @@ fn prepare(
     sweep::refresh(ws, pass.job, blocks, PatternAt(0), pass.job.n);
 }
 
-// A pass: every tile of at least s words is laid.
+// A pass: every tile of at least s words is laid, until the goal.
 fn one_pass(ws: &mut [u32], pass: Pass, tiles: &mut [u32], totals: Totals) -> Totals
     requires { ⌜ Fits (pass .job) (now ws) (now tiles) totals × Ranges pass ⌝ }
     ensures { λ r. ⌜ Finished (pass .job) (pass .s) (now (ws .entry)) (now (tiles .entry)) totals (now (ws .exit)) (now (tiles .exit)) r ⌝ }
@@ -58,15 +60,16 @@ fn one_pass(ws: &mut [u32], pass: Pass, tiles: &mut [u32], totals: Totals) -> To
     levels::lay_levels(ws, pass, &heads, &mut last, &mut blocks, tiles, totals)
 }
 
-// The passes after the one given, which is over, down to the minimum, as long as the pattern has a stretch that could be a tile.
+// The passes after the one given, which is over, down to the minimum, as long as the pattern has a stretch that could be a tile, until
+// the goal.
 fn later_passes(ws: &mut [u32], pass: Pass, tiles: &mut [u32], totals: Totals) -> Totals
-    requires { ⌜ Fits (pass .job) (now ws) (now tiles) totals × Ranges pass × (best (state (pass .job) (now ws)) .len < pass .s) ⌝ }
+    requires { ⌜ Fits (pass .job) (now ws) (now tiles) totals × Ranges pass × (atGoal (pass .job) totals ≡ false → best (state (pass .job) (now ws)) .len < pass .s) ⌝ }
     ensures { λ r. ⌜ Finished (pass .job) (pass .job .minimum) (now (ws .entry)) (now (tiles .entry)) totals (now (ws .exit)) (now (tiles .exit)) r ⌝ }
 {
     let mut sum = totals;
     let mut now = pass;
     let mut stretch = lengths::left_of(ws, pass);
-    while now.job.minimum <= stretch {
+    while now.job.minimum <= stretch && !sweep::at_goal(now.job, sum) {
         let s = lengths::next_length(now, stretch, sum.covered);
         now = at_length(now, s);
         sum = one_pass(ws, now, tiles, sum);
@@ -75,12 +78,16 @@ fn later_passes(ws: &mut [u32], pass: Pass, tiles: &mut [u32], totals: Totals) -
     sum
 }
 
-// Lays every tile of at least the minimum, from the state that the workspace holds, by passes of falling search lengths. The one
-// given says where to begin if windows of the minimum length are too much alike.
+// Lays every tile of at least the minimum, from the state that the workspace holds, by passes of falling search lengths, until the
+// goal: where it is reached at once, nothing is looked at. The pass given says where to begin if windows of the minimum length are
+// too much alike.
 pub fn tile_all(ws: &mut [u32], pass: Pass, tiles: &mut [u32], totals: Totals) -> Totals
     requires { ⌜ Fits (pass .job) (now ws) (now tiles) totals × Ranges pass ⌝ }
     ensures { λ r. ⌜ Finished (pass .job) (pass .job .minimum) (now (ws .entry)) (now (tiles .entry)) totals (now (ws .exit)) (now (tiles .exit)) r ⌝ }
 {
+    if sweep::at_goal(pass.job, totals) {
+        return totals;
+    }
     let first = at_length(pass, lengths::first_length(ws, pass));
     let sum = one_pass(ws, first, tiles, totals);
     later_passes(ws, first, tiles, sum)

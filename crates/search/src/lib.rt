@@ -1,11 +1,13 @@
 // The fast engine, Running Karp-Rabin: its settings, its checks, and its passes between the two ends of a comparison.
 use index::Pass;
+use sweep::Goal;
 use sweep::Totals;
 use tiling::Compared;
 ghost use mathlib.Core.Path.{_≡_};
 ghost use lib.ListN.{length};
-ghost use Rattle.tiling.specs.Comparing.{fastRefusal, Comparable, InRange, Roomy};
+ghost use Rattle.tiling.specs.Comparing.{searchChecks, fastRefusal, Comparable, InRange, Roomy};
 ghost use Rattle.tiling.specs.Answer.{Compares};
+ghost use Rattle.ends.specs.Result.{Room, Ran};
 ghost use Rattle.search.specs.Promise.{Fast};
 
 // How the search is set: the multiplier of its hashes, which may be any, its bucket count, and its first search length.
@@ -13,6 +15,17 @@ pub struct Settings {
     pub multiplier: u32,
     pub buckets: u32,
     pub start: u32,
+}
+
+// Why any service that compares refuses these sequences, this minimum and these settings; 0 where it does not.
+pub fn search_refusal(first: &[u32], second: &[u32], minimum: u32, settings: Settings) -> u32
+    ensures { λ r. ⌜ r ≡ searchChecks (now (first .entry)) (now (second .entry)) minimum (settings .buckets) (settings .start) 0 ⌝ }
+{
+    let of_pair = checks::pair_refusal(first, second, minimum);
+    if of_pair != 0 {
+        return of_pair;
+    }
+    checks::settings_refusal(minimum, settings.buckets, settings.start)
 }
 
 // Why a comparison is refused; 0 where it is not.
@@ -26,15 +39,36 @@ pub fn fast_refusal(
 ) -> u32
     ensures { λ r. ⌜ r ≡ fastRefusal (now (first .entry)) (now (second .entry)) minimum (settings .buckets) (settings .start) workspace tiles ⌝ }
 {
-    let of_pair = checks::pair_refusal(first, second, minimum);
-    if of_pair != 0 {
-        return of_pair;
-    }
-    let of_settings = checks::settings_refusal(minimum, settings.buckets, settings.start);
-    if of_settings != 0 {
-        return of_settings;
+    let of_search = search_refusal(first, second, minimum, settings);
+    if of_search != 0 {
+        return of_search;
     }
     checks::room_refusal(first, second, minimum, workspace, tiles)
+}
+
+// Lays the tiles of two sequences for which no cause of a refusal holds, until a goal.
+pub fn lay(
+    first: &[u32],
+    second: &[u32],
+    minimum: u32,
+    goal: Goal,
+    settings: Settings,
+    workspace: &mut [u32],
+    tiles: &mut [u32],
+) -> Totals
+    requires { ⌜ Comparable (now first) (now second) minimum ⌝ }
+    requires { ⌜ InRange minimum (settings .buckets) (settings .start) ⌝ }
+    requires { ⌜ Room (length (now first)) (length (now second)) minimum goal (length (now workspace)) (length (now tiles)) ⌝ }
+    ensures { λ r. ⌜ Ran (now (first .entry)) (now (second .entry)) minimum goal (now (tiles .entry)) (now (tiles .exit)) r ⌝ }
+{
+    let job = ends::open(first, second, minimum as usize, goal, workspace);
+    let pass = Pass {
+        job,
+        s: settings.start as usize,
+        multiplier: settings.multiplier,
+        buckets: settings.buckets as usize,
+    };
+    passes::tile_all(workspace, pass, tiles, ends::unlaid(job))
 }
 
 // Compares two sequences for which no cause of a refusal holds.
@@ -51,19 +85,9 @@ pub fn compare_accepted(
     requires { ⌜ Roomy (length (now first)) (length (now second)) minimum (length (now workspace)) (length (now tiles)) ⌝ }
     ensures { λ r. ⌜ Compares 0 (now (first .entry)) (now (second .entry)) minimum (now (workspace .entry)) (now (tiles .entry)) r (now (workspace .exit)) (now (tiles .exit)) ⌝ }
 {
-    let none = Totals {
-        count: 0,
-        covered: 0,
-    };
-    let job = ends::open(first, second, minimum as usize, workspace);
-    let pass = Pass {
-        job,
-        s: settings.start as usize,
-        multiplier: settings.multiplier,
-        buckets: settings.buckets as usize,
-    };
-    let sum = passes::tile_all(workspace, pass, tiles, none);
-    ends::close(workspace, job, sum)
+    let whole = ends::whole();
+    let sum = lay(first, second, minimum, whole, settings, workspace, tiles);
+    ends::close(workspace, first.len() + second.len(), sum)
 }
 
 // Compares two sequences by greedy string tiling with a minimum length of tiles, by a search that is set as given. The answer,

@@ -13,7 +13,7 @@ use lib.ListN.{length}
 use Rattle.symbol.specs.Sequence.{allSound, tooLong}
 use Rattle.symbol.specs.Refusal.{refuse}
 use Rattle.symbol.proofs.Refusal.{refuse-swap, clear, Part, part-end, part-cause, part-then, part-stops, part-goes}
-use Rattle.tiling.specs.Comparing.{sequences, minimums, settings, room, plainRefusal, fastChecks, Comparable, InRange, Roomy}
+use Rattle.tiling.specs.Comparing.{sequences, minimums, settings, room, plainRefusal, searchChecks, fastChecks, Comparable, InRange, Roomy}
 
 -- ---- no cause holds
 record SequencesClear (first second : List ℕ) (later : ℕ) : Type 0 where
@@ -115,20 +115,25 @@ comparable-clear first second minimum later e =
 pub comparable : (first second : List ℕ) (minimum later : ℕ) → sequences first second (minimums minimum later) ≡ 0 → Comparable first second minimum
 comparable first second minimum later e = comparable-clear first second minimum later e .comparable
 
--- And there is room and, by the search, its settings are in range, whatever a service checks later.
+-- And, by the search, its settings are in range, whatever a service checks later.
+module _ (first second : List ℕ) (minimum buckets start later : ℕ) (e : searchChecks first second minimum buckets start later ≡ 0) where
+  settings-are : SettingsClear minimum buckets start later
+  settings-are = settings-clear minimum buckets start later (comparable-clear first second minimum _ e .rest)
+
+  pub search-in-range : InRange minimum buckets start
+  search-in-range = settings-are .in-range
+
+  pub search-rest : later ≡ 0
+  search-rest = settings-are .rest
+
+-- And there is room.
 module _ (first second : List ℕ) (minimum workspace tiles : ℕ) where
   pub plain-roomy : plainRefusal first second minimum workspace tiles ≡ 0 → Roomy (length first) (length second) minimum workspace tiles
   plain-roomy e = room-clear (length first) (length second) minimum workspace tiles 0 (comparable-clear first second minimum _ e .rest) .roomy
 
   module _ (buckets start later : ℕ) (e : fastChecks first second minimum buckets start workspace tiles later ≡ 0) where
-    settings-are : SettingsClear minimum buckets start (room (length first) (length second) minimum workspace tiles later)
-    settings-are = settings-clear minimum buckets start _ (comparable-clear first second minimum _ e .rest)
-
     room-is : RoomClear (length first) (length second) minimum workspace tiles later
-    room-is = room-clear (length first) (length second) minimum workspace tiles later (settings-are .rest)
-
-    pub fast-in-range : InRange minimum buckets start
-    fast-in-range = settings-are .in-range
+    room-is = room-clear (length first) (length second) minimum workspace tiles later (search-rest first second minimum buckets start _ e)
 
     pub fast-roomy : Roomy (length first) (length second) minimum workspace tiles
     fast-roomy = room-is .roomy
@@ -155,6 +160,9 @@ in-range-passes minimum buckets start later i =
     let some : eqb buckets 0 ≡ false = ne-eqb buckets 0 (λ e. absurd (omega (arith, i .some-bucket))) in
     rw (some, le-ltb 1024 buckets (i .few-buckets), le-ltb start minimum (i .start-least), le-ltb 2048 start (i .start-most)) refl
 
+pub search-passes : (first second : List ℕ) (minimum buckets start later : ℕ) → Comparable first second minimum → InRange minimum buckets start → searchChecks first second minimum buckets start later ≡ later
+search-passes first second minimum buckets start later c i = comparable-passes first second minimum _ c ∙ in-range-passes minimum buckets start later i
+
 pub roomy-passes : (n m minimum workspace tiles later : ℕ) → Roomy n m minimum workspace tiles → room n m minimum workspace tiles later ≡ later
 roomy-passes n m minimum workspace tiles later r =
     rw (le-ltb workspace (4 * (n + m)) (r .work-room), le-ltb tiles (3 * (min n m / minimum)) (r .tile-room)) refl
@@ -166,8 +174,7 @@ module _ (first second : List ℕ) (minimum workspace tiles : ℕ) (c : Comparab
 
   pub fast-passes : (buckets start later : ℕ) → InRange minimum buckets start → fastChecks first second minimum buckets start workspace tiles later ≡ later
   fast-passes buckets start later i =
-      comparable-passes first second minimum _ c
-      ∙ (in-range-passes minimum buckets start _ i ∙ roomy-passes (length first) (length second) minimum workspace tiles later r)
+      search-passes first second minimum buckets start _ c i ∙ roomy-passes (length first) (length second) minimum workspace tiles later r
 
 -- ---- exchanging the sequences
 pub comparable-exchange : {first second : List ℕ} {minimum : ℕ} → Comparable first second minimum → Comparable second first minimum
@@ -198,10 +205,13 @@ plain-refusal-exchange first second minimum workspace tiles =
     sequences-exchange first second _
     ∙ ap (λ k. sequences second first (minimums minimum k)) (room-exchange (length first) (length second) minimum workspace tiles 0)
 
+pub search-checks-exchange : (first second : List ℕ) (minimum buckets start later : ℕ) → searchChecks first second minimum buckets start later ≡ searchChecks second first minimum buckets start later
+search-checks-exchange first second minimum buckets start later = sequences-exchange first second _
+
 pub fast-checks-exchange : (first second : List ℕ) (minimum buckets start workspace tiles later : ℕ) → fastChecks first second minimum buckets start workspace tiles later ≡ fastChecks second first minimum buckets start workspace tiles later
 fast-checks-exchange first second minimum buckets start workspace tiles later =
-    sequences-exchange first second _
-    ∙ ap (λ k. sequences second first (minimums minimum (settings minimum buckets start k))) (room-exchange (length first) (length second) minimum workspace tiles later)
+    search-checks-exchange first second minimum buckets start _
+    ∙ ap (searchChecks second first minimum buckets start) (room-exchange (length first) (length second) minimum workspace tiles later)
 
 -- ---- the parts of the chain
 sequences-part : (first second : List ℕ) → Part (sequences first second)
@@ -227,13 +237,16 @@ room-part n m minimum workspace tiles =
     part-cause _ (ltb workspace (4 * (n + m))) 6 (omega arith)
     (part-cause _ (ltb tiles (3 * (min n m / minimum))) 7 (omega arith) part-end)
 
--- All that the search checks is a part of what a service checks.
+-- All that the search checks is a part of what a service checks, without room and with it.
+pub search-part : (first second : List ℕ) (minimum buckets start : ℕ) → Part (searchChecks first second minimum buckets start)
+search-part first second minimum buckets start =
+    part-then (λ k. sequences first second (minimums minimum k)) (settings minimum buckets start) (comparable-part first second minimum) (settings-part minimum buckets start)
+
 pub fast-part : (first second : List ℕ) (minimum buckets start workspace tiles : ℕ) → Part (fastChecks first second minimum buckets start workspace tiles)
 fast-part first second minimum buckets start workspace tiles =
-    part-then (λ k. sequences first second (minimums minimum k)) (λ k. settings minimum buckets start (room (length first) (length second) minimum workspace tiles k))
-    (comparable-part first second minimum)
-    (part-then (settings minimum buckets start) (room (length first) (length second) minimum workspace tiles)
-    (settings-part minimum buckets start) (room-part (length first) (length second) minimum workspace tiles))
+    part-then (searchChecks first second minimum buckets start) (room (length first) (length second) minimum workspace tiles)
+    (search-part first second minimum buckets start)
+    (room-part (length first) (length second) minimum workspace tiles)
 
 -- What the code of the parts answered. A cause of the sequences stops the chain, and then the minimum decides.
 module _ (first second : List ℕ) (minimum q : ℕ) (of-sequences : q ≡ sequences first second 0) where
@@ -255,14 +268,14 @@ module _ (first second : List ℕ) (minimum q : ℕ) (of-pair : q ≡ sequences 
     pub later-decides : (later r : ℕ) → r ≡ later → r ≡ sequences first second (minimums minimum later)
     later-decides later r = part-goes _ (comparable-part first second minimum) q r later of-pair z
 
-    -- With the search's settings between: a cause of them stops the chain, and then what comes last decides.
-    module _ (buckets start last v : ℕ) (of-settings : v ≡ settings minimum buckets start 0) where
-      pub settings-refused : (v ≡ 0 → ⊥) → v ≡ sequences first second (minimums minimum (settings minimum buckets start last))
-      settings-refused d =
-          later-decides (settings minimum buckets start last) v
-          (part-stops (settings minimum buckets start) (settings-part minimum buckets start) v last of-settings d)
+-- A cause of all that the search checks stops the chain, and then what comes later decides.
+module _ (first second : List ℕ) (minimum buckets start q : ℕ) (of-search : q ≡ searchChecks first second minimum buckets start 0) where
+  pub search-refused : (later : ℕ) → (q ≡ 0 → ⊥) → q ≡ searchChecks first second minimum buckets start later
+  search-refused later = part-stops _ (search-part first second minimum buckets start) q later of-search
 
-      pub last-decides : v ≡ 0 → (r : ℕ) → r ≡ last → r ≡ sequences first second (minimums minimum (settings minimum buckets start last))
-      last-decides k r h =
-          later-decides (settings minimum buckets start last) r
-          (part-goes (settings minimum buckets start) (settings-part minimum buckets start) v r last of-settings k h)
+  module _ (z : q ≡ 0) where
+    pub comparable-searched : Comparable first second minimum
+    comparable-searched = comparable first second minimum _ (sym of-search ∙ z)
+
+    pub search-decides : (later r : ℕ) → r ≡ later → r ≡ searchChecks first second minimum buckets start later
+    search-decides later r = part-goes _ (search-part first second minimum buckets start) q r later of-search z

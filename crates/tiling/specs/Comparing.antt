@@ -28,25 +28,29 @@ settings minimum buckets start later =
     (refuse (ltb start minimum) 5
     (refuse (ltb 2048 start) 5 later)))
 
--- 6: "Workspace below 4 × (sum of lengths) words"; 7: "Tile buffer below 3 × (shorter length divided by minimum, rounded
--- down) words". Of the sequences only the lengths count.
+-- 6: "Workspace below 4 × (sum of lengths) words". Of the sequences only the lengths count.
+abbrev pub workspaces : ℕ → ℕ → ℕ → ℕ → ℕ
+workspaces first second workspace later = refuse (ltb workspace (4 * (first + second))) 6 later
+
+-- The same and 7: "Tile buffer below 3 × (shorter length divided by minimum, rounded down) words".
 abbrev pub room : ℕ → ℕ → ℕ → ℕ → ℕ → ℕ → ℕ
 room first second minimum workspace tiles later =
-    refuse (ltb workspace (4 * (first + second))) 6
-    (refuse (ltb tiles (3 * (min first second / minimum))) 7 later)
+    workspaces first second workspace (refuse (ltb tiles (3 * (min first second / minimum))) 7 later)
 
 -- The sequences, the minimum, and how many words the workspace and the tile buffer have.
 abbrev pub plainRefusal : List ℕ → List ℕ → ℕ → ℕ → ℕ → ℕ
 plainRefusal first second minimum workspace tiles =
     sequences first second (minimums minimum (room (length first) (length second) minimum workspace tiles 0))
 
--- The same with the search's bucket count and first search length, and what a service that compares checks later. Any multiplier will do.
+-- What every service that compares checks of sequences, minimum, bucket count and first search length, and what it checks later. Any
+-- multiplier will do.
+abbrev pub searchChecks : List ℕ → List ℕ → ℕ → ℕ → ℕ → ℕ → ℕ
+searchChecks first second minimum buckets start later = sequences first second (minimums minimum (settings minimum buckets start later))
+
+-- The same with a workspace and a tile buffer.
 abbrev pub fastChecks : List ℕ → List ℕ → ℕ → ℕ → ℕ → ℕ → ℕ → ℕ → ℕ
 fastChecks first second minimum buckets start workspace tiles later =
-    sequences first second
-    (minimums minimum
-    (settings minimum buckets start
-    (room (length first) (length second) minimum workspace tiles later)))
+    searchChecks first second minimum buckets start (room (length first) (length second) minimum workspace tiles later)
 
 abbrev pub fastRefusal : List ℕ → List ℕ → ℕ → ℕ → ℕ → ℕ → ℕ → ℕ
 fastRefusal first second minimum buckets start workspace tiles = fastChecks first second minimum buckets start workspace tiles 0

@@ -1,7 +1,9 @@
 -- `passes::later_passes` meets its contract: at the head of each turn nothing as long as the search length is left, and no run is longer than the
 -- stretch.
 -- Assumes nothing.
-use Rattle.passes.proofs.Passes.{Resting, resting-none, resting-covered, resting-short, resting-fits, resting-ranges, resting-less, resting-more, resting-done}
+use borrow.Author.Tests.{not-false}
+use Rattle.sweep.proofs.Turn.{few-covered, few-fillable}
+use Rattle.passes.proofs.Passes.{Resting, resting-none, resting-covered, resting-short, resting-fits, resting-ranges, resting-less, resting-more, resting-done, resting-goal}
 use borrow.Author.Needs.{needs}
 use Rattle.passes.proofs.later_passes.Statement.{statement}
 use Rattle.passes.proofs.later_passes.Tie as tie
@@ -17,6 +19,9 @@ left-of-requires c κs = search needs
 
 loop-holds : tie.Need-loop-holds Inv-loop μ-loop
 loop-holds c = search resting-none
+
+at-goal-requires : tie.Need-at-goal-requires Inv-loop μ-loop
+at-goal-requires c κs = (search few-covered, search few-fillable)
 
 next-length-requires : tie.Need-next-length-requires Inv-loop μ-loop
 next-length-requires c κs = (search resting-covered, search resting-short)
@@ -43,7 +48,16 @@ same-length-2 : tie.Need-same-length-2 Inv-loop μ-loop
 same-length-2 c = search needs
 
 returns : tie.Need-returns Inv-loop μ-loop
-returns c = search resting-done
+returns c = search (resting-goal, not-false)
+
+same-length-3 : tie.Need-same-length-3 Inv-loop μ-loop
+same-length-3 c = search needs
+
+same-length-4 : tie.Need-same-length-4 Inv-loop μ-loop
+same-length-4 c = search needs
+
+returns-2 : tie.Need-returns-2 Inv-loop μ-loop
+returns-2 c = search resting-done
 
 pub later-passes-spec : {M : Type 1} → statement M
 later-passes-spec =
@@ -53,6 +67,7 @@ later-passes-spec =
     μ-loop
     left-of-requires
     loop-holds
+    at-goal-requires
     next-length-requires
     at-length-requires
     one-pass-requires
@@ -61,4 +76,7 @@ later-passes-spec =
     loop-again
     same-length
     same-length-2
-    returns)
+    returns
+    same-length-3
+    same-length-4
+    returns-2)
