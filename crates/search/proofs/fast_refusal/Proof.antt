@@ -1,35 +1,22 @@
--- `search::fast_refusal` meets its contract: a cause of the pair stops the chain, then one of the settings, and then the room decides.
+-- `search::fast_refusal` meets its contract: a cause that every service checks stops the chain, and then the room decides.
 -- Assumes nothing.
-use Rattle.tiling.proofs.Comparing.{pair-refused, comparable-of, settings-refused, last-decides}
+use Rattle.tiling.proofs.Comparing.{search-refused, comparable-searched, search-decides}
 use borrow.Author.Needs.{needs}
 use Rattle.search.proofs.fast_refusal.Statement.{statement}
 use Rattle.search.proofs.fast_refusal.Tie as tie
 
-pair-refusal-requires : tie.Need-pair-refusal-requires
-pair-refusal-requires c κs = search needs
+search-refusal-requires : tie.Need-search-refusal-requires
+search-refusal-requires c κs = search needs
 
 returns : tie.Need-returns
-returns c = search pair-refused
-
-settings-refusal-requires : tie.Need-settings-refusal-requires
-settings-refusal-requires c κs = search needs
-
-returns-2 : tie.Need-returns-2
-returns-2 c = search settings-refused
+returns c = search search-refused
 
 room-refusal-requires : tie.Need-room-refusal-requires
-room-refusal-requires c κs = search comparable-of
+room-refusal-requires c κs = search comparable-searched
 
-returns-3 : tie.Need-returns-3
-returns-3 c = search last-decides
+returns-2 : tie.Need-returns-2
+returns-2 c = search search-decides
 
 pub fast-refusal-spec : {M : Type 1} → statement M
 fast-refusal-spec =
-    tie.close
-    (tie.spec
-    pair-refusal-requires
-    returns
-    settings-refusal-requires
-    returns-2
-    room-refusal-requires
-    returns-3)
+    tie.close (tie.spec search-refusal-requires returns room-refusal-requires returns-2)
