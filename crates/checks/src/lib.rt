@@ -2,7 +2,7 @@
 ghost use mathlib.Core.Path.{_≡_};
 ghost use Prim.Native.Nat.{_/_, _≤_, min};
 ghost use lib.ListN.{length};
-ghost use Rattle.tiling.specs.Comparing.{sequences, minimums, settings, room, Comparable};
+ghost use Rattle.tiling.specs.Comparing.{sequences, minimums, settings, workspaces, room, Comparable};
 
 // The checks of the sequences: 1 for more than 2,048 words, 2 for an unsound word.
 fn sequences_refusal(first: &[u32], second: &[u32]) -> u32
@@ -75,6 +75,17 @@ fn most_tiles(n: usize, m: usize, minimum: usize) -> usize
     buffer::lesser(n, m) / minimum
 }
 
+// The check of the workspace: 6 where it is too short.
+pub fn workspace_refusal(first: &[u32], second: &[u32], workspace: usize) -> u32
+    requires { ⌜ (length (now first) ≤ 2048) × (length (now second) ≤ 2048) ⌝ }
+    ensures { λ r. ⌜ r ≡ workspaces (length (now (first .entry))) (length (now (second .entry))) workspace 0 ⌝ }
+{
+    if workspace < 4 * (first.len() + second.len()) {
+        return 6;
+    }
+    0
+}
+
 // The checks of the room: 6 for a workspace too short, 7 for a tile buffer too short.
 pub fn room_refusal(
     first: &[u32],
@@ -86,12 +97,11 @@ pub fn room_refusal(
     requires { ⌜ Comparable (now first) (now second) minimum ⌝ }
     ensures { λ r. ⌜ r ≡ room (length (now (first .entry))) (length (now (second .entry))) minimum workspace tiles 0 ⌝ }
 {
-    let n = first.len();
-    let m = second.len();
-    if workspace < 4 * (n + m) {
-        return 6;
+    let of_workspace = workspace_refusal(first, second, workspace);
+    if of_workspace != 0 {
+        return of_workspace;
     }
-    if tiles < 3 * most_tiles(n, m, minimum as usize) {
+    if tiles < 3 * most_tiles(first.len(), second.len(), minimum as usize) {
         return 7;
     }
     0

@@ -18,7 +18,7 @@ use Rattle.tiling.specs.Comparing.{Comparable, InRange, Roomy}
 use Rattle.tiling.specs.Answer.{Compares}
 use Rattle.tiling.specs.Demand.{long, tilesIn}
 use Rattle.tiling.specs.declared.Compared.{Compared}
-use Rattle.tiling.proofs.Comparing.{comparable, fast-in-range, fast-roomy, fast-rest}
+use Rattle.tiling.proofs.Comparing.{comparable, search-in-range, fast-roomy, fast-rest}
 use Rattle.tiling.proofs.Demand.{listing-begins, tiles-fit}
 use Rattle.tiling.proofs.Answers.{answers-listed, answers-demands}
 use Rattle.ends.specs.Ends.{refusedBy}
@@ -54,7 +54,7 @@ module _ (first second : List ℕ) (buckets start workspace tiles entries r : �
       let n = sym e ∙ z in
       record {
         can = comparable first second 1 _ n;
-        set = fast-in-range first second 1 workspace tiles buckets start _ n;
+        set = search-in-range first second 1 buckets start _ n;
         room = fast-roomy first second 1 workspace tiles buckets start _ n;
         enough = ltb-false entries 256 (clear (ltb entries 256) 11 0 (omega arith) (fast-rest first second 1 workspace tiles buckets start _ n) .first);
       }

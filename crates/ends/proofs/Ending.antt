@@ -16,7 +16,7 @@ use Rattle.tiling.specs.Greedy.{Greedy, done}
 use Rattle.tiling.specs.Comparing.{Comparable}
 use Rattle.tiling.specs.Choice.{firstIsPattern, patternOf, textOf}
 use Rattle.tiling.specs.Listing.{startOnPattern, listing, tileWords, covered}
-use Rattle.tiling.specs.Until.{unlaid, until, firstListed}
+use Rattle.tiling.specs.Until.{Far, unlaid, until, firstListed}
 use Rattle.tiling.proofs.Greedy.{only}
 use Rattle.tiling.proofs.Tiling.{tiling-greedy}
 use Rattle.tiling.proofs.Replaced.{tiling-replaced, fillable-replaced}
@@ -42,6 +42,14 @@ at-same false k = refl
 size-same : (t : Bool) (k : Tile) → listed t k .len ≡ k .len
 size-same true k = refl
 size-same false k = refl
+
+-- The first tiles of the listing, until any test holds, are those of the tiling as they are listed.
+pub first-listed-is : (stop : Far → Bool) (first second : List ℕ) (minimum : ℕ) → firstListed stop first second minimum ≡ map (listed (firstIsPattern first second)) (until onPattern size stop (unlaid (patternOf first second)) (tiling minimum (start (patternOf first second) (textOf first second))))
+first-listed-is stop first second minimum =
+    let t = firstIsPattern first second in
+    let pattern = patternOf first second in
+    ap (until (startOnPattern t) (λ e. e .len) stop (unlaid pattern)) (listing-is first second minimum)
+    ∙ until-map onPattern size (startOnPattern t) (λ e. e .len) (listed t) (at-same t) (size-same t) stop (unlaid pattern) (tiling minimum (start pattern (textOf first second)))
 
 -- ---- words that are replaced
 replaced-stop : (goal : Goal) (minimum n : ℕ) (ws : List ℕ) → stopped goal minimum (record { covered = n; pattern = map replaced ws }) ≡ stopped goal minimum (record { covered = n; pattern = ws })
@@ -132,10 +140,8 @@ module _ (first second : List ℕ) (minimum : ℕ) (goal : Goal) (ws b : List �
 
     first-listed : firstListed (stopped goal minimum) first second minimum ≡ map (listed (j .straight)) (laid-here .tiles)
     first-listed =
-        let t = firstIsPattern first second in
-        ap (until (startOnPattern t) (λ e. e .len) (stopped goal minimum) (unlaid pattern)) (listing-is first second minimum)
-        ∙ (until-map onPattern size (startOnPattern t) (λ e. e .len) (listed t) (at-same t) (size-same t) (stopped goal minimum) (unlaid pattern) all
-        ∙ (ap (map (listed t)) first-tiles ∙ ap (λ x. map (listed x) (laid-here .tiles)) (sym straight-is)))
+        first-listed-is (stopped goal minimum) first second minimum
+        ∙ (ap (map (listed (firstIsPattern first second))) first-tiles ∙ ap (λ x. map (listed x) (laid-here .tiles)) (sym straight-is))
 
     all-listed : atGoal j k ≡ false → map (listed (j .straight)) (laid-here .tiles) ≡ listing first second minimum
     all-listed g =

@@ -18,7 +18,7 @@ use Rattle.tiling.specs.Listing.{outsideListing}
 use Rattle.tiling.specs.Answer.{Compares}
 use Rattle.tiling.specs.Demand.{long, tilesOf, EqualStarts, Demands, Exchanges}
 use Rattle.tiling.specs.declared.Compared.{Compared}
-use Rattle.tiling.proofs.Comparing.{comparable, fast-in-range, in-range-passes, plain-accepts, fast-passes, comparable-exchange, plain-refusal-exchange, fast-checks-exchange}
+use Rattle.tiling.proofs.Comparing.{comparable, search-in-range, in-range-passes, plain-accepts, fast-passes, comparable-exchange, plain-refusal-exchange, fast-checks-exchange}
 use Rattle.tiling.proofs.Demand.{covered-falls, score-falls}
 use Rattle.tiling.proofs.Answers.{answers-number, answers-covered, answers-demands, answers-outside, answers-equal, answers-exchange, answers-begin}
 use Rattle.plain.specs.Promise.{Plain}
@@ -45,7 +45,7 @@ accepts (fast buckets start) first second minimum workspace tiles c r s = fast-p
 
 set-known : (e : Engine) (first second : List ℕ) (minimum workspace tiles : ℕ) → refusalBy e first second minimum workspace tiles ≡ 0 → SetFor e minimum
 set-known plain first second minimum workspace tiles z = tt
-set-known (fast buckets start) first second minimum workspace tiles z = fast-in-range first second minimum workspace tiles buckets start 0 z
+set-known (fast buckets start) first second minimum workspace tiles z = search-in-range first second minimum buckets start _ z
 
 refusal-exchange : (e : Engine) (first second : List ℕ) (minimum workspace tiles : ℕ) → refusalBy e first second minimum workspace tiles ≡ refusalBy e second first minimum workspace tiles
 refusal-exchange plain first second minimum workspace tiles = plain-refusal-exchange first second minimum workspace tiles

@@ -1,0 +1,5 @@
+pub mod Known
+pub mod Words
+pub mod Decided
+pub mod Telling
+pub mod Refusal
