@@ -3,6 +3,7 @@
 use record::ReadAnswer;
 use search::Settings;
 use symbol::Counted;
+use threshold::Told;
 use tiling::Compared;
 ghost use mathlib.Core.Path.{_≡_};
 ghost use lib.ListN.{length};
@@ -14,6 +15,7 @@ ghost use Rattle.window.specs.HashList.{hashAnswer, hashBuffer};
 ghost use Rattle.plain.specs.Promise.{Plain};
 ghost use Rattle.search.specs.Promise.{Fast};
 ghost use Rattle.cover.specs.Promise.{EveryMinimum};
+ghost use Rattle.threshold.specs.Promise.{AtLeast};
 
 // The word as it is compared and hashed: a call of a retired code, 65,000 to 65,015, becomes a call of the code that this stands
 // for, and any other word is itself.
@@ -132,4 +134,28 @@ pub extern "C" fn sigxume_cover_fast(
         start,
     };
     cover::every_minimum(first, second, settings, workspace, tiles, cover)
+}
+
+// Whether a comparison by Running Karp-Rabin would score at least the threshold, 1 or 0, and how many tiles it takes to tell: the
+// fewest, 0 included, after which what they cover scores so much, or cannot any more; else all. No tile is listed, and the whole
+// workspace is zero after it. Refused: 1 to 6, 12.
+#[no_mangle]
+pub extern "C" fn sigxume_at_least_fast(
+    first: &[u32],
+    second: &[u32],
+    minimum: u32,
+    threshold: u32,
+    multiplier: u32,
+    buckets: u32,
+    start: u32,
+    workspace: &mut [u32],
+) -> Told
+    ensures { λ r. ⌜ AtLeast (now (first .entry)) (now (second .entry)) minimum buckets start threshold (now (workspace .entry)) r (now (workspace .exit)) ⌝ }
+{
+    let settings = Settings {
+        multiplier,
+        buckets,
+        start,
+    };
+    threshold::at_least(first, second, minimum, threshold, settings, workspace)
 }

@@ -1,3 +1,4 @@
 pub mod Engine
 pub mod Equal
 pub mod Cover
+pub mod Threshold

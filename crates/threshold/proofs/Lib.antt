@@ -3,3 +3,4 @@ pub mod Words
 pub mod Decided
 pub mod Telling
 pub mod Refusal
+pub mod Exchange
