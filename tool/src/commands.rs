@@ -9,7 +9,7 @@ use crate::matrix::Matrix;
 use crate::output::{self, Output};
 use crate::pairs::Pairs;
 use crate::usage::Arguments;
-use crate::{curves, listing, plot, text};
+use crate::{curves, listing, plot, text, verdict};
 use sigxume::{bytes_of_words, Comparer, Refusal, Symbol, Tiling};
 use std::io::{self, IsTerminal};
 use std::num::NonZeroUsize;
@@ -44,28 +44,53 @@ fn read_all(arguments: &Arguments, form: Form) -> Result<Vec<Fish>, Failure> {
 }
 
 pub fn compare(arguments: Arguments) -> Result<(), Failure> {
+    if let Some(threshold) = arguments.at_least {
+        return verdict(&arguments, threshold);
+    }
     let show = if arguments.json {
         listing::json
     } else {
         listing::listing
     };
-    one_pair(&arguments, show)
+    tiles(&arguments, show)
 }
 
 pub fn plot(arguments: Arguments) -> Result<(), Failure> {
-    one_pair(&arguments, plot::plot)
+    tiles(&arguments, plot::plot)
+}
+
+/// One pair's tiles, as they are shown.
+fn tiles(
+    arguments: &Arguments,
+    show: fn([&Fish; 2], u32, Tiling) -> String,
+) -> Result<(), Failure> {
+    one_pair(arguments, |comparer, pair| {
+        let [first, second] = pair.map(|fish| &fish.sequence);
+        let tiling = comparer.compare(first, second, arguments.minimum)?;
+        Ok(show(pair, arguments.minimum, tiling))
+    })
+}
+
+/// Whether one pair reaches a threshold.
+fn verdict(arguments: &Arguments, threshold: u32) -> Result<(), Failure> {
+    one_pair(arguments, |comparer, pair| {
+        let [first, second] = pair.map(|fish| &fish.sequence);
+        let verdict = comparer.at_least(first, second, arguments.minimum, threshold)?;
+        Ok(if arguments.json {
+            verdict::json(pair, arguments.minimum, threshold, verdict)
+        } else {
+            verdict::lines(threshold, verdict)
+        })
+    })
 }
 
 fn one_pair(
     arguments: &Arguments,
-    show: fn([&Fish; 2], u32, Tiling) -> String,
+    text: impl FnOnce(&mut Comparer, [&Fish; 2]) -> Result<String, Refusal>,
 ) -> Result<(), Failure> {
     let fish = read_all(arguments, Form::Either)?;
     let pair = fish::pair(&fish, arguments.fish.first().copied())?;
-    let mut comparer = Comparer::new();
-    let [first, second] = pair.map(|fish| &fish.sequence);
-    let tiling = comparer.compare(first, second, arguments.minimum)?;
-    let text = show(pair, arguments.minimum, tiling);
+    let text = text(&mut Comparer::new(), pair)?;
     output::write(arguments.output.as_deref(), text.as_bytes())
 }
 

@@ -158,9 +158,11 @@ Examples
 
 pub const COMPARE: &str = concat!(
     "\
-Compares two fish: lists the stretches that they share, and the score.
+Compares two fish: lists the stretches that they share, and the score; or only
+says whether the score reaches a line.
 
-Usage: sigxume compare -m N [--fish A,B] [--json] [-o FILE] FILE [FILE]
+Usage: sigxume compare -m N [--fish A,B] [--at-least L] [--json] [-o FILE]
+                       FILE [FILE]
 
 ",
     shared!(pair),
@@ -168,7 +170,8 @@ Usage: sigxume compare -m N [--fish A,B] [--json] [-o FILE] FILE [FILE]
 Options
   -m, --minimum N     the least words of a tile; it must be given
       --fish A,B      compare fish A with fish B
-      --json          JSON in place of the listing
+      --at-least L    only say whether the score is at least L, from 0 to 1000
+      --json          JSON in place of the listing, or of yes and no
 ",
     shared!(output),
     shared!(help),
@@ -187,10 +190,20 @@ The listing
   COVERED 7 OF 7 12  the tiles cover 7 words, of 7 and of 12
   SCORE 736          2000 times 7, divided by 7 plus 12: from 0 to 1000
 
+With --at-least
+  AT LEAST 500 YES   the score is 500 or more; NO if it is less
+  TILES 1            so many tiles were laid until that was known
+
+  It is known when the tiles laid so far reach L by themselves; when they would
+  not reach it even with all free stretches of at least N words of the shorter
+  fish; or when all are laid. That may be before the first tile. The answer is
+  always that of the whole comparison. The exit status is 0 for yes and for no.
+
 JSON
   One line. fish, lengths: of the first and the second; minimum, covered,
   score; tiles: for each its start in first and in second, its length and its
-  shift, in the order of the listing.
+  shift, in the order of the listing. With --at-least: fish, lengths, minimum;
+  threshold: L; reached: true or false; tiles: how many were laid.
 
 ",
     shared!(status),
@@ -198,6 +211,7 @@ JSON
 Examples
   sigxume compare -m 1 fish.txt
   sigxume compare -m 8 --fish 12,13 --json fish.txt
+  sigxume compare -m 8 --fish 12,13 --at-least 500 fish.txt
 "
 );
 

@@ -21,6 +21,7 @@ mod progress;
 mod svg;
 mod text;
 mod usage;
+mod verdict;
 
 use failure::Failure;
 use std::env;
@@ -59,7 +60,7 @@ const SUBCOMMANDS: [Subcommand; 7] = [
     Subcommand {
         name: "compare",
         accepted: Accepted {
-            options: &["minimum", "fish", "json", "output"],
+            options: &["minimum", "fish", "at-least", "json", "output"],
             repeated: &[],
             operands: 1..=2,
         },

@@ -12,6 +12,8 @@ use Takes::{Nothing, Value};
 #[derive(Default)]
 pub struct Arguments {
     pub minimum: u32,
+    /// The threshold: the line that scores must reach.
+    pub at_least: Option<u32>,
     pub output: Option<PathBuf>,
     /// One pair at most, but where `--fish` may be repeated.
     pub fish: Vec<[u16; 2]>,
@@ -54,12 +56,20 @@ enum Takes {
     Value(&'static str, fn(&mut Arguments, &OsStr) -> Option<()>),
 }
 
-const TABLE: [Row; 11] = [
+const TABLE: [Row; 12] = [
     Row {
         long: "minimum",
         short: Some(b'm'),
         takes: Value("a number from 1 to 256", |arguments, value| {
             arguments.minimum = number(value.to_str()?)?;
+            Some(())
+        }),
+    },
+    Row {
+        long: "at-least",
+        short: None,
+        takes: Value("a number from 0 to 1000", |arguments, value| {
+            arguments.at_least = Some(number(value.to_str()?)?);
             Some(())
         }),
     },
