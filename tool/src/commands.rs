@@ -7,7 +7,7 @@ use crate::input::{Form, Reader};
 use crate::layout::{Layout, Lines, Table};
 use crate::matrix::Matrix;
 use crate::output::{self, Output};
-use crate::pairs::Pairs;
+use crate::pairs::Sides;
 use crate::usage::Arguments;
 use crate::{curves, listing, plot, text, verdict};
 use sigxume::{bytes_of_words, Comparer, Refusal, Symbol, Tiling};
@@ -119,21 +119,26 @@ pub fn matrix(arguments: Arguments) -> Result<(), Failure> {
         left_out: false,
     };
     let fish = reader.fish(&arguments.operands, Form::Either)?;
+    let others = reader.fish(arguments.against.as_slice(), Form::Either)?;
     // The core has to refuse a minimum even where there is no pair.
     Comparer::new().compare(&[], &[], arguments.minimum)?;
 
-    let pairs = Pairs::count(fish.len());
+    let sides = Sides {
+        rows: &fish,
+        against: arguments.against.is_some().then_some(&others),
+    };
+    let pairs = sides.count();
     let cores = || thread::available_parallelism().map_or(1, NonZeroUsize::get);
     let matrix = Matrix {
-        fish: &fish,
+        sides,
         minimum: arguments.minimum,
         pairs: arguments.part.map_or(0..pairs, |part| part.of(pairs)),
         threads: arguments.threads.map_or_else(cores, NonZeroUsize::get),
     };
     let mut layout: Box<dyn Layout> = if arguments.pairs {
-        Box::new(Lines { fish: &fish })
+        Box::new(Lines { sides })
     } else {
-        Box::new(Table::new(&fish))
+        Box::new(Table::new(sides))
     };
     let mut output = Output::open(arguments.output.as_deref())?;
     if arguments.part.is_none_or(|part| part.number == 1) {

@@ -94,6 +94,7 @@ const SUBCOMMANDS: [Subcommand; 7] = [
                 "minimum",
                 "pairs",
                 "part",
+                "against",
                 "keep-going",
                 "threads",
                 "output",
@@ -143,7 +144,7 @@ impl Subcommand {
         if parsed.help {
             return print(self.help);
         }
-        input::spare(&parsed.operands, parsed.output.as_deref())?;
+        input::spare(parsed.inputs(), parsed.output.as_deref())?;
         (self.run)(parsed)
     }
 }

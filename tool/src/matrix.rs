@@ -1,10 +1,9 @@
-//! Every pair of fish: the comparisons are shared out among threads, and their answers are written in order.
+//! Many pairs of fish: the comparisons are shared out among threads, and their answers are written in order.
 
 use crate::failure::Failure;
-use crate::fish::Fish;
 use crate::layout::Layout;
 use crate::output::Output;
-use crate::pairs::{Pair, Pairs};
+use crate::pairs::{Pair, Sides};
 use crate::progress::Progress;
 use sigxume::{Comparer, Comparison, Refusal};
 use std::collections::BTreeMap;
@@ -15,7 +14,7 @@ use std::sync::{Mutex, PoisonError};
 use std::thread::{self, Builder};
 
 pub struct Matrix<'a> {
-    pub fish: &'a [Fish],
+    pub sides: Sides<'a>,
     pub minimum: u32,
     /// The numbers of the pairs that are compared.
     pub pairs: Range<usize>,
@@ -40,7 +39,7 @@ impl Matrix<'_> {
         let total = self.pairs.len();
         let size = (total / self.threads / 64).clamp(1, MOST);
         let threads = self.threads.min(total.div_ceil(size));
-        let mut pairs = Pairs::from(self.fish.len(), self.pairs.start).take(total);
+        let mut pairs = self.sides.pairs().skip(self.pairs.start).take(total);
         let chunks = iter::repeat_with(|| Vec::from_iter(pairs.by_ref().take(size)));
         let mut chunks = chunks.enumerate().take(total.div_ceil(size));
 
@@ -127,10 +126,10 @@ impl Matrix<'_> {
         comparer: &mut Comparer,
         pairs: Vec<Pair>,
     ) -> Result<Vec<(Pair, Comparison)>, Refusal> {
-        let compare = |(row, column): Pair| {
-            let [first, second] = [row, column].map(|at| &self.fish[at].sequence);
+        let compare = |pair| {
+            let [first, second] = self.sides.fish(pair).map(|fish| &fish.sequence);
             let tiling = comparer.compare(first, second, self.minimum)?;
-            Ok(((row, column), tiling.answer()))
+            Ok((pair, tiling.answer()))
         };
         pairs.into_iter().map(compare).collect()
     }

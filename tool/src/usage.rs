@@ -22,6 +22,8 @@ pub struct Arguments {
     pub plot: bool,
     pub pairs: bool,
     pub part: Option<Part>,
+    /// Where the fish of the other side are.
+    pub against: Option<OsString>,
     pub threads: Option<NonZeroUsize>,
     pub keep_going: bool,
     pub help: bool,
@@ -56,7 +58,7 @@ enum Takes {
     Value(&'static str, fn(&mut Arguments, &OsStr) -> Option<()>),
 }
 
-const TABLE: [Row; 12] = [
+const TABLE: [Row; 13] = [
     Row {
         long: "minimum",
         short: Some(b'm'),
@@ -122,6 +124,14 @@ const TABLE: [Row; 12] = [
         }),
     },
     Row {
+        long: "against",
+        short: None,
+        takes: Value("the name of a file or a folder", |arguments, value| {
+            arguments.against = Some(value.into());
+            (!value.is_empty()).then_some(())
+        }),
+    },
+    Row {
         long: "threads",
         short: None,
         takes: Value("a number from 1", |arguments, value| {
@@ -143,6 +153,13 @@ const TABLE: [Row; 12] = [
 
 /// Each of these chooses what is written, so one alone may be given.
 const FORMS: [&str; 3] = ["all", "json", "plot"];
+
+impl Arguments {
+    /// All that is read: the operands, then the other side.
+    pub fn inputs(&self) -> impl Iterator<Item = &OsString> {
+        self.operands.iter().chain(&self.against)
+    }
+}
 
 /// Digits only: Rust's own reading takes a sign too.
 fn number<T: FromStr>(text: &str) -> Option<T> {
@@ -199,6 +216,12 @@ pub fn parse(arguments: &[OsString], accepted: &Accepted) -> Result<Arguments, S
     }
     if parsed.part.is_some() && !parsed.pairs {
         return Err("--part goes with --pairs only".into());
+    }
+    // It can be read once only, and the other side would be empty.
+    if parsed.against.as_deref() == Some("-".as_ref())
+        && parsed.operands.iter().any(|operand| operand == "-")
+    {
+        return Err("standard input is named on both sides".into());
     }
     given.retain(|option| FORMS.contains(option));
     if let [one, other, ..] = *given {
