@@ -8,6 +8,7 @@ use crate::layout::{Layout, Lines, Table};
 use crate::matrix::Matrix;
 use crate::output::{self, Output};
 use crate::pairs::Sides;
+use crate::ranking::Ranking;
 use crate::usage::Arguments;
 use crate::{curves, listing, plot, text, verdict};
 use sigxume::{bytes_of_words, Comparer, Refusal, Symbol, Tiling};
@@ -120,8 +121,9 @@ pub fn matrix(arguments: Arguments) -> Result<(), Failure> {
     };
     let fish = reader.fish(&arguments.operands, Form::Either)?;
     let others = reader.fish(arguments.against.as_slice(), Form::Either)?;
-    // The core has to refuse a minimum even where there is no pair.
-    Comparer::new().compare(&[], &[], arguments.minimum)?;
+    // The core has to refuse a minimum, and a threshold, even where there is no pair.
+    let threshold = arguments.at_least;
+    Comparer::new().at_least(&[], &[], arguments.minimum, threshold.unwrap_or(0))?;
 
     let sides = Sides {
         rows: &fish,
@@ -132,11 +134,15 @@ pub fn matrix(arguments: Arguments) -> Result<(), Failure> {
     let matrix = Matrix {
         sides,
         minimum: arguments.minimum,
+        threshold,
         pairs: arguments.part.map_or(0..pairs, |part| part.of(pairs)),
         threads: arguments.threads.map_or_else(cores, NonZeroUsize::get),
     };
     let mut layout: Box<dyn Layout> = if arguments.pairs {
         Box::new(Lines { sides })
+    } else if threshold.is_some() {
+        let most = arguments.top.map_or(usize::MAX, NonZeroUsize::get);
+        Box::new(Ranking::new(sides, most))
     } else {
         Box::new(Table::new(sides))
     };
@@ -145,7 +151,7 @@ pub fn matrix(arguments: Arguments) -> Result<(), Failure> {
         output.write(layout.head().as_bytes())?;
     }
     matrix.write(&mut *layout, &mut output)?;
-    output.write(layout.tail().as_bytes())?;
+    layout.tail(&mut output)?;
     output.finish()?;
     if reader.left_out {
         return Err(Failure::Quiet);

@@ -1,5 +1,7 @@
-//! The two layouts of the matrix, as CSV: the table of scores, and a line for each pair.
+//! Two layouts of the matrix, as CSV: the table of scores, and a line for each pair.
 
+use crate::failure::Failure;
+use crate::output::Output;
 use crate::pairs::{Pair, Sides};
 use sigxume::Comparison;
 use std::fmt::Write;
@@ -17,8 +19,18 @@ pub trait Layout {
     /// Adds a pair's part.
     fn pair(&mut self, text: &mut String, pair: Pair, answer: Comparison);
 
-    /// What stands below the last pair.
-    fn tail(&mut self) -> String;
+    /// Writes what stands below the last pair.
+    fn tail(&mut self, output: &mut Output) -> Result<(), Failure>;
+}
+
+/// How the heading of lines about pairs begins.
+pub const NAMED: &str = "row,column,first_fish,second_fish";
+
+/// How a line about a pair begins: with its row and its column, counted from 1, and the numbers of its fish.
+pub fn named(sides: Sides, pair: Pair) -> String {
+    let [first, second] = sides.fish(pair).map(|fish| fish.id);
+    let (row, column) = pair;
+    format!("{},{},{first},{second}", row + 1, column + 1)
 }
 
 /// The table. Of one side each score stands on both sides of the diagonal, which is empty.
@@ -89,37 +101,33 @@ impl Layout for Table<'_> {
     }
 
     /// The rows without a pair: of one side the last one, which has no later fish; of two sides none, or all.
-    fn tail(&mut self) -> String {
+    fn tail(&mut self, output: &mut Output) -> Result<(), Failure> {
         let mut text = String::new();
         while self.begun < self.sides.rows.len() {
             self.begin(&mut text);
             text.push('\n');
         }
-        text
+        output.write(text.as_bytes())
     }
 }
 
 impl Layout for Lines<'_> {
     fn head(&self) -> String {
-        "row,column,first_fish,second_fish,tiles,covered,score\n".into()
+        format!("{NAMED},tiles,covered,score\n")
     }
 
     fn pair(&mut self, text: &mut String, pair: Pair, answer: Comparison) {
+        let pair = named(self.sides, pair);
         let Comparison {
             tiles,
             covered,
             score,
             ..
         } = answer;
-        let [first, second] = self.sides.fish(pair).map(|fish| fish.id);
-        let (row, column) = (pair.0 + 1, pair.1 + 1);
-        let _ = writeln!(
-            text,
-            "{row},{column},{first},{second},{tiles},{covered},{score}"
-        );
+        let _ = writeln!(text, "{pair},{tiles},{covered},{score}");
     }
 
-    fn tail(&mut self) -> String {
-        String::new()
+    fn tail(&mut self, _: &mut Output) -> Result<(), Failure> {
+        Ok(())
     }
 }

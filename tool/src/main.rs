@@ -18,6 +18,7 @@ mod output;
 mod pairs;
 mod plot;
 mod progress;
+mod ranking;
 mod svg;
 mod text;
 mod usage;
@@ -94,6 +95,8 @@ const SUBCOMMANDS: [Subcommand; 7] = [
                 "minimum",
                 "pairs",
                 "part",
+                "at-least",
+                "top",
                 "against",
                 "keep-going",
                 "threads",

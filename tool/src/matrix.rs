@@ -16,6 +16,8 @@ use std::thread::{self, Builder};
 pub struct Matrix<'a> {
     pub sides: Sides<'a>,
     pub minimum: u32,
+    /// Where there is one, the pairs that do not reach it are passed over.
+    pub threshold: Option<u32>,
     /// The numbers of the pairs that are compared.
     pub pairs: Range<usize>,
     pub threads: usize,
@@ -30,7 +32,7 @@ const OUT: usize = 64;
 /// Pairs that a thread compares in one go, with their place in the order.
 type Chunk = (usize, Vec<Pair>);
 
-/// The pairs of a chunk with what was answered of each, or why there is nothing.
+/// The pairs of a chunk with what was answered of each, without those that are passed over; or why there is nothing.
 type Answer = (usize, Result<Vec<(Pair, Comparison)>, Refusal>);
 
 impl Matrix<'_> {
@@ -127,11 +129,23 @@ impl Matrix<'_> {
         pairs: Vec<Pair>,
     ) -> Result<Vec<(Pair, Comparison)>, Refusal> {
         let compare = |pair| {
-            let [first, second] = self.sides.fish(pair).map(|fish| &fish.sequence);
-            let tiling = comparer.compare(first, second, self.minimum)?;
-            Ok((pair, tiling.answer()))
+            let compared = self.compare(comparer, pair).transpose()?;
+            Some(compared.map(|answer| (pair, answer)))
         };
-        pairs.into_iter().map(compare).collect()
+        pairs.into_iter().filter_map(compare).collect()
+    }
+
+    /// What is answered of a pair, or nothing where it is passed over.
+    fn compare(&self, comparer: &mut Comparer, pair: Pair) -> Result<Option<Comparison>, Refusal> {
+        let [first, second] = self.sides.fish(pair).map(|fish| &fish.sequence);
+        if let Some(threshold) = self.threshold {
+            let verdict = comparer.at_least(first, second, self.minimum, threshold)?;
+            if !verdict.reached {
+                return Ok(None);
+            }
+        }
+        let tiling = comparer.compare(first, second, self.minimum)?;
+        Ok(Some(tiling.answer()))
     }
 }
 
