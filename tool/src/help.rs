@@ -305,7 +305,7 @@ Examples
 pub const MATRIX: &str = concat!(
     "\
 Compares every two of many fish: a table of scores, as CSV, which a
-spreadsheet opens.
+spreadsheet opens; or a list of the pairs that reach a line.
 
 Usage: sigxume matrix -m N [OPTION...] PATH...
 
@@ -320,6 +320,11 @@ Options
       --pairs         a line for each pair, in place of the table
       --part K/N      with --pairs: part K of N, so that N machines can share
                       the work; the parts one after another are the whole
+      --at-least L    in place of the table a list of the pairs whose score is at
+                      least L, from 0 to 1000
+      --top N         with --at-least: the first N of the list
+      --against PATH  compare each fish of the operands with each of PATH, a file
+                      or a folder, and no others
   -k, --keep-going    leave out what is bad, and say so
       --threads N     use N threads; otherwise as many as there are cores
 ",
@@ -344,6 +349,29 @@ The table
     row,column,first_fish,second_fish,tiles,covered,score
     1,2,12,13,3,7,736
 
+With --at-least
+  The pairs that reach L are listed, the highest score first. Equal scores are
+  in the order of --pairs, and rows and columns are counted as there:
+
+    row,column,first_fish,second_fish,covered,score
+    2,3,13,14,10,800
+    1,2,12,13,7,736
+
+  Each pair is asked as by 'sigxume compare --at-least'. Only those that reach L
+  are compared to the end, which gives covered and score.
+
+With --against
+  The fish of the operands are the rows, those of PATH the columns, each side
+  counted from 1. So dams are compared with sires, and neither with their own:
+
+    fish,20,21
+    12,736,500
+    13,285,0
+
+  It goes with --pairs and with --at-least too. The same file may be on both
+  sides: then each fish is compared with itself as well, and with every other
+  one twice.
+
 With --keep-going
   Of a file of text only the bad lines are left out; of a file of records the
   bad one and all after it; a file that cannot be read, whole. The rest is
@@ -355,6 +383,8 @@ With --keep-going
 Examples
   sigxume matrix -m 8 -o scores.csv fish.txt
   sigxume matrix -m 8 --pairs fish.txt
+  sigxume matrix -m 8 --at-least 300 --top 20 fish.txt
+  sigxume matrix -m 8 --at-least 300 --against sires.txt dams.txt
 "
 );
 
