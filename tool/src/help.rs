@@ -320,11 +320,11 @@ Options
       --pairs         a line for each pair, in place of the table
       --part K/N      with --pairs: part K of N, so that N machines can share
                       the work; the parts one after another are the whole
-      --at-least L    in place of the table a list of the pairs whose score is at
-                      least L, from 0 to 1000
+      --at-least L    in place of the table a list of the pairs with a score of
+                      at least L, from 0 to 1000
       --top N         with --at-least: the first N of the list
-      --against PATH  compare each fish of the operands with each of PATH, a file
-                      or a folder, and no others
+      --against PATH  compare each fish of the operands with each one of PATH,
+                      a file or a folder, and no others
   -k, --keep-going    leave out what is bad, and say so
       --threads N     use N threads; otherwise as many as there are cores
 ",
