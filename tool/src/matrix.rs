@@ -1,4 +1,4 @@
-//! Many pairs of fish: the comparisons are shared out among threads, and their answers are written in order.
+//! Many pairs of fish: the comparisons are shared out among threads, and their answers are laid out in order.
 
 use crate::failure::Failure;
 use crate::layout::Layout;
