@@ -13,7 +13,8 @@ use sigxume_tests::tool::{
     matrix_mirror, options, output, plot, progress, round_trips, usage,
 };
 use sigxume_tests::{
-    baselines, documents, hashes, known, library, machine, program, records, retired, stack, words,
+    baselines, documents, hashes, known, library, machine, program, records, retired, stack,
+    threshold, words,
 };
 use std::process::ExitCode;
 use std::thread;
@@ -106,6 +107,20 @@ const GROUPS: &[Row] = &[
     ("cover: settings", 109, cover::limits::settings),
     ("cover: unsound words", 110, cover::limits::unsound),
     ("cover: order of refusals", 111, cover::limits::order),
+    ("threshold: known pairs", 140, threshold::known),
+    ("threshold: retired codes", 155, threshold::retired),
+    ("threshold: every threshold", 141, threshold::every),
+    ("threshold: every small pair", 142, threshold::small),
+    ("threshold: random pairs", 143, threshold::random),
+    ("threshold: larger pairs", 144, threshold::larger),
+    ("threshold: known tiles", 145, threshold::known_tiles),
+    ("threshold: what buffers held", 146, threshold::held),
+    ("threshold: laws", 147, threshold::laws::laws),
+    ("threshold: exchange", 148, threshold::exchange::exchange),
+    ("threshold: sizes", 149, threshold::limits::sizes),
+    ("threshold: settings", 150, threshold::limits::settings),
+    ("threshold: unsound words", 151, threshold::limits::unsound),
+    ("threshold: order of refusals", 152, threshold::limits::order),
     ("library: refusals", 75, library::refusals),
     ("library: C header", 82, library::header),
     ("library: symbols", 76, library::symbols),
@@ -114,10 +129,12 @@ const GROUPS: &[Row] = &[
     ("library: comparisons", 79, library::comparisons),
     ("library: one comparer", 80, library::comparer),
     ("library: cover", 86, library::covers),
+    ("library: thresholds", 153, library::thresholds),
     ("library: scores", 87, library::scores),
     ("library: hashes", 81, library::hashes),
     ("stack: engines", 83, stack::engines),
     ("stack: cover", 112, stack::cover),
+    ("stack: threshold", 154, stack::threshold),
     ("stack: other functions", 84, stack::others),
     ("stack: pair program", 85, stack::pair_program),
     ("program: known pairs", 51, program::known),
