@@ -10,7 +10,7 @@ use sigxume_tests::cover;
 use sigxume_tests::group::Group;
 use sigxume_tests::tool::{
     self, bad_lines, bad_records, codes, compare, curves, json, matrix, matrix_bad, matrix_large,
-    matrix_mirror, options, output, plot, progress, round_trips, usage,
+    matrix_mirror, options, output, plot, progress, ranking, round_trips, sides, usage, verdict,
 };
 use sigxume_tests::{
     baselines, documents, hashes, known, library, machine, program, records, retired, stack,
@@ -153,6 +153,7 @@ const GROUPS: &[Row] = &[
     ("tool: bad records", 63, bad_records::bad_records),
     ("tool: compare", 64, compare::compare),
     ("tool: JSON", 65, json::json),
+    ("tool: compare, at a line", 93, verdict::verdict),
     ("tool: plot", 66, plot::plot),
     ("tool: cover", 88, tool::cover::cover),
     ("tool: cover, picture", 89, curves::curves),
@@ -160,6 +161,8 @@ const GROUPS: &[Row] = &[
     ("tool: matrix, bad input", 68, matrix_bad::bad_input),
     ("tool: matrix, 64 records", 69, matrix_large::large),
     ("tool: matrix, mirrored", 90, matrix_mirror::mirrored),
+    ("tool: matrix, at a line", 91, ranking::ranking),
+    ("tool: matrix, two sides", 92, sides::sides),
     ("tool: output", 70, output::output),
     ("tool: options", 71, options::options),
     ("tool: usage", 72, usage::usage),
