@@ -40,7 +40,8 @@
  * they differ; so a no-call is greater than every call. Of equal sequences it is the first.
  *
  * So it does not matter which sequence is passed first: exchanging the two exchanges the two starts of each tile and changes nothing
- * else. The order of the tiles, their lengths, their number, covered, score and every word of a cover are the same.
+ * else. The order of the tiles, their lengths, their number, covered, score, every word of a cover and what is told of a threshold are
+ * the same.
  *
  * Rules that hold for every function:
  *
@@ -52,8 +53,8 @@
  * - An answer is a struct whose first number is the refusal's, 0 for none. After a refusal every other number is 0 and everything
  *   lent is as it was. A refusal is given when its cause holds and none that is checked earlier, and at no other time.
  * - Nothing is allocated, no state is kept and errno is not touched, so any thread may call at any time, with buffers of its own.
- * - Every call ends. The fast engine, and so a cover, takes about 17 KB of stack, everything else under 1 KB: a thread with 32 KiB
- *   can make any call.
+ * - Every call ends. The fast engine, which also makes a cover and decides about a threshold, takes about 17 KB of stack, everything
+ *   else under 1 KB: a thread with 32 KiB can make any call.
  */
 #ifndef SIGXUME_H
 #define SIGXUME_H
@@ -76,6 +77,9 @@ extern "C" {
 /* The greatest minimum and the greatest bucket count; the least is 1 for both. */
 #define SIGXUME_MAX_MINIMUM 256
 #define SIGXUME_MAX_BUCKETS 1024
+
+/* The greatest threshold, which is the greatest score; the least is 0 for both. */
+#define SIGXUME_MAX_THRESHOLD 1000
 
 /* The words of a cover: one for each minimum. */
 #define SIGXUME_COVER_WORDS 256
@@ -103,7 +107,8 @@ enum sigxume_refusal {
     SIGXUME_REFUSED_CUT = 8,           /* the record ends before its trailer */
     SIGXUME_REFUSED_HEADER = 9,        /* the first word is no header, or its count exceeds 2,048 */
     SIGXUME_REFUSED_TRAILER = 10,      /* the trailer is not of kind 3 with the right sum */
-    SIGXUME_REFUSED_ROOM = 11          /* the buffer is shorter than what would be written */
+    SIGXUME_REFUSED_ROOM = 11,         /* the buffer is shorter than what would be written */
+    SIGXUME_REFUSED_THRESHOLD = 12     /* the threshold is above 1,000 */
 };
 
 /* The answer of reading: a refusal's number and zeros, or 0 and what was read. */
@@ -127,6 +132,13 @@ typedef struct sigxume_compared {
     uint32_t covered; /* the sum of their lengths */
     uint32_t score;   /* 2,000 * covered divided by the sum of both lengths, rounded down: 0 to 1,000; 0 for two empty sequences */
 } sigxume_compared;
+
+/* The answer about a threshold: a refusal's number and zeros, or 0 and what was decided. */
+typedef struct sigxume_told {
+    uint32_t refusal;
+    uint32_t reached; /* 1 where the score is at least the threshold, 0 where it is less */
+    uint32_t tiles;   /* the number of tiles laid until that was decided */
+} sigxume_told;
 
 /* A tile, as sigxume_tile_at takes it from a tile buffer. First and second mean as passed, whichever is the longer. */
 typedef struct sigxume_tile {
@@ -220,6 +232,7 @@ static inline const char *sigxume_reason(uint32_t refusal)
     case SIGXUME_REFUSED_HEADER: return "the first word is no header, or its count exceeds 2,048";
     case SIGXUME_REFUSED_TRAILER: return "the trailer is not of kind 3 with the right sum";
     case SIGXUME_REFUSED_ROOM: return "the buffer is shorter than what would be written";
+    case SIGXUME_REFUSED_THRESHOLD: return "the threshold is above 1,000";
     default: return "no refusal has this number";
     }
 }
@@ -303,6 +316,24 @@ sigxume_compared sigxume_cover_fast(
     uint32_t start, uint32_t *workspace, size_t workspace_len, uint32_t *tiles, size_t tiles_len, uint32_t *cover,
     size_t cover_len);
 
+/*
+ * Says whether two sequences score at least threshold, from 0 to SIGXUME_MAX_THRESHOLD: yes exactly where the score that
+ * sigxume_compare_fast answers is at least that. The tiles are laid in its order, but no more of them than it takes to decide; they
+ * are counted and not kept, so no tile buffer is lent.
+ *
+ * It is decided after the fewest tiles, 0 included, whose covered words alone score at least threshold, which is a yes; or score less
+ * even with every free stretch of the pattern added that has at least minimum words, which is a no. Where neither ever holds, all
+ * tiles are laid, and it is a no. A word is free until a tile covers it, so a no-call always is, and ends no stretch. The threshold 0
+ * is reached with 0 tiles by any two sequences, two empty ones included. The workspace is that of sigxume_compare_fast, and left as
+ * there; of multiplier, buckets and start only the time depends.
+ *
+ * Refused, in this order: TOO_LONG (1), UNSOUND (2), MINIMUM (3), BUCKETS (4), SEARCH_LENGTH (5), WORKSPACE (6),
+ * THRESHOLD (12). The workspace is then as it was.
+ */
+sigxume_told sigxume_at_least_fast(
+    const uint32_t *first, size_t first_len, const uint32_t *second, size_t second_len, uint32_t minimum, uint32_t threshold,
+    uint32_t multiplier, uint32_t buckets, uint32_t start, uint32_t *workspace, size_t workspace_len);
+
 /* sigxume_compare_fast with the settings that serve well at this minimum, so that neither BUCKETS (4) nor SEARCH_LENGTH (5) is
  * refused. */
 static inline sigxume_compared sigxume_compare(
@@ -322,6 +353,17 @@ static inline sigxume_compared sigxume_cover(
     return sigxume_cover_fast(
         first, first_len, second, second_len, SIGXUME_MULTIPLIER, SIGXUME_BUCKETS, sigxume_start(1), workspace, workspace_len,
         tiles, tiles_len, cover, cover_len);
+}
+
+/* sigxume_at_least_fast with the settings that serve well at this minimum, so that neither BUCKETS (4) nor SEARCH_LENGTH (5) is
+ * refused. */
+static inline sigxume_told sigxume_at_least(
+    const uint32_t *first, size_t first_len, const uint32_t *second, size_t second_len, uint32_t minimum, uint32_t threshold,
+    uint32_t *workspace, size_t workspace_len)
+{
+    return sigxume_at_least_fast(
+        first, first_len, second, second_len, minimum, threshold, SIGXUME_MULTIPLIER, SIGXUME_BUCKETS, sigxume_start(minimum),
+        workspace, workspace_len);
 }
 
 #ifdef __cplusplus

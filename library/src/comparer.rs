@@ -1,8 +1,8 @@
 //! Comparing many pairs with the same buffers.
 
 use crate::{
-    compare, cover, tile_words, tiles, workspace_words, Comparison, Cover, Refusal, Settings, Tile,
-    MAX_WORDS,
+    at_least, compare, cover, tile_words, tiles, workspace_words, Comparison, Cover, Refusal,
+    Settings, Tile, Verdict, MAX_WORDS,
 };
 
 /// Compares pairs of sequences, with buffers of its own that grow as needed and serve from one
@@ -74,10 +74,41 @@ impl Comparer {
         cover(first, second, Settings::for_minimum(1), workspace, buffer)
     }
 
+    /// Says whether two sequences score at least a threshold, and lays no more tiles than that
+    /// takes. It has use for the workspace alone. Refused, in this order:
+    /// [`TooLong`](Refusal::TooLong), [`Unsound`](Refusal::Unsound), [`Minimum`](Refusal::Minimum),
+    /// [`Threshold`](Refusal::Threshold).
+    ///
+    /// ```
+    /// use sigxume::{Comparer, Symbol, MAX_THRESHOLD};
+    ///
+    /// let first = [1, 2, 3, 4, 5, 6].map(|code| Symbol::Call(code).word());
+    /// let second = [4, 5, 6, 1, 2, 9].map(|code| Symbol::Call(code).word());
+    ///
+    /// let mut comparer = Comparer::new();
+    /// let score = comparer.compare(&first, &second, 2)?.score();
+    /// for threshold in 0..=MAX_THRESHOLD {
+    ///     let verdict = comparer.at_least(&first, &second, 2, threshold)?;
+    ///     assert_eq!(verdict.reached, score >= threshold);
+    /// }
+    /// # Ok::<(), sigxume::Refusal>(())
+    /// ```
+    pub fn at_least(
+        &mut self,
+        first: &[u32],
+        second: &[u32],
+        minimum: u32,
+        threshold: u32,
+    ) -> Result<Verdict, Refusal> {
+        let [n, m] = lengths(first, second);
+        let workspace = part(&mut self.workspace, workspace_words(n, m));
+        let settings = Settings::for_minimum(minimum);
+        at_least(first, second, minimum, threshold, settings, workspace)
+    }
+
     /// Workspace and tile buffer for a comparison of two sequences.
     fn buffers(&mut self, first: &[u32], second: &[u32], minimum: u32) -> [&mut [u32]; 2] {
-        // A longer sequence is refused, so there is no need to make room for it.
-        let [n, m] = [first, second].map(|sequence| sequence.len().min(MAX_WORDS));
+        let [n, m] = lengths(first, second);
         [
             part(&mut self.workspace, workspace_words(n, m)),
             part(&mut self.tiles, tile_words(n, m, minimum)),
@@ -105,6 +136,11 @@ impl<'a> Tiling<'a> {
     pub fn tiles(&self) -> impl ExactSizeIterator<Item = Tile> + 'a {
         tiles(self.buffer, self.answer.tiles)
     }
+}
+
+/// The lengths to make room for: a longer sequence than can be compared is refused.
+fn lengths(first: &[u32], second: &[u32]) -> [usize; 2] {
+    [first, second].map(|sequence| sequence.len().min(MAX_WORDS))
 }
 
 /// The first so many words of a buffer, which grows where it is shorter.

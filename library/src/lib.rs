@@ -33,9 +33,11 @@
 //! [`Tile::second`] of each tile and changes nothing else, equal lengths included.
 //!
 //! What a greater minimum would leave of it, [`Comparer::cover`] answers for every minimum at once.
+//! Whether the score is at least some threshold, [`Comparer::at_least`] answers, often after few
+//! tiles or none.
 //!
 //! [`Comparer`] keeps buffers from one comparison to the next. Who has buffers already calls
-//! [`compare`] and [`cover`], which allocate nothing; [`workspace_words`] and [`tile_words`] say how
+//! [`compare`], [`cover`] and [`at_least`], which allocate nothing; [`workspace_words`] and [`tile_words`] say how
 //! large they must be. No function keeps state, so any number of threads may call them, each with
 //! buffers of its own.
 
@@ -52,6 +54,7 @@ mod cover;
 mod record;
 mod refusal;
 mod symbol;
+mod threshold;
 mod window;
 
 pub use bytes::{bytes_of_words, words_of_bytes};
@@ -63,6 +66,7 @@ pub use cover::{cover, Cover, COVER_WORDS};
 pub use record::{read, record_words, records, write, Entry, Record, Records};
 pub use refusal::Refusal;
 pub use symbol::{all_sound, replaced, words_match, Symbol};
+pub use threshold::{at_least, Verdict};
 pub use window::{hash_list, hash_words};
 
 /// The most words that a sequence may have.
@@ -73,6 +77,9 @@ pub const MAX_MINIMUM: u32 = 256;
 
 /// The greatest bucket count; the least is 1.
 pub const MAX_BUCKETS: u32 = 1_024;
+
+/// The greatest threshold, which is the greatest score; the least is 0 for both.
+pub const MAX_THRESHOLD: u32 = 1_000;
 
 #[cfg(doctest)]
 #[doc = include_str!("../../docs/BUILDING-ON-IT.md")]

@@ -47,6 +47,18 @@ pub struct Compared {
     pub score: u32,
 }
 
+/// The answer about a threshold: a refusal's number and zeros, or 0 and what was decided.
+#[repr(C)]
+#[derive(Clone, Copy, Debug, PartialEq, Eq)]
+pub struct Told {
+    /// The refusal's number, 0 for none.
+    pub refusal: u32,
+    /// 1 where the score is at least the threshold, 0 where it is less.
+    pub reached: u32,
+    /// The number of tiles laid until that was decided.
+    pub tiles: u32,
+}
+
 extern "C" {
     fn sigxume_replaced(word: u32) -> u32;
     fn sigxume_match(a: u32, b: u32) -> bool;
@@ -112,6 +124,19 @@ extern "C" {
         cover: *mut u32,
         cover_len: usize,
     ) -> Compared;
+    fn sigxume_at_least_fast(
+        first: *const u32,
+        first_len: usize,
+        second: *const u32,
+        second_len: usize,
+        minimum: u32,
+        threshold: u32,
+        multiplier: u32,
+        buckets: u32,
+        start: u32,
+        workspace: *mut u32,
+        workspace_len: usize,
+    ) -> Told;
 }
 
 /// The word as it is compared and hashed.
@@ -236,6 +261,33 @@ pub fn cover_fast(
             tiles.len(),
             cover.as_mut_ptr(),
             cover.len(),
+        )
+    }
+}
+
+/// Says whether two sequences score at least `threshold`, by the fast engine, which lays no more
+/// tiles than that takes.
+pub fn at_least_fast(
+    first: &[u32],
+    second: &[u32],
+    minimum: u32,
+    threshold: u32,
+    settings: Settings,
+    workspace: &mut [u32],
+) -> Told {
+    unsafe {
+        sigxume_at_least_fast(
+            first.as_ptr(),
+            first.len(),
+            second.as_ptr(),
+            second.len(),
+            minimum,
+            threshold,
+            settings.multiplier,
+            settings.buckets,
+            settings.start,
+            workspace.as_mut_ptr(),
+            workspace.len(),
         )
     }
 }

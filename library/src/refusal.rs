@@ -40,6 +40,8 @@ pub enum Refusal {
     Trailer = 10,
     /// The buffer is shorter than what would be written.
     Room = 11,
+    /// The threshold is above [`MAX_THRESHOLD`](crate::MAX_THRESHOLD).
+    Threshold = 12,
 }
 
 impl Refusal {
@@ -56,6 +58,7 @@ impl Refusal {
         Self::Header,
         Self::Trailer,
         Self::Room,
+        Self::Threshold,
     ];
 
     /// The number, from 1.
@@ -93,6 +96,7 @@ impl Refusal {
             Self::Header => "the first word is no header, or its count exceeds 2,048",
             Self::Trailer => "the trailer is not of kind 3 with the right sum",
             Self::Room => "the buffer is shorter than what would be written",
+            Self::Threshold => "the threshold is above 1,000",
         }
     }
 

@@ -43,15 +43,15 @@ fn every_fast(pair: Sides, minimum: u32) -> Vec<Engine> {
 
 /// A pair to compare at a minimum. Its tiles are the same for every engine; they are found once, and
 /// only where a comparison is accepted.
-struct Problem<'a> {
-    pair: Sides<'a>,
-    minimum: u32,
+pub struct Problem<'a> {
+    pub pair: Sides<'a>,
+    pub minimum: u32,
     laid: OnceCell<Vec<Tile>>,
 }
 
 impl<'a> Problem<'a> {
     /// A pair that the reference tiles.
-    fn new(pair: Sides<'a>, minimum: u32) -> Self {
+    pub fn new(pair: Sides<'a>, minimum: u32) -> Self {
         let laid = OnceCell::new();
         Self {
             pair,
@@ -61,13 +61,20 @@ impl<'a> Problem<'a> {
     }
 
     /// A pair whose tiles are known beforehand.
-    fn known(pair: Sides<'a>, minimum: u32, laid: Vec<Tile>) -> Self {
+    pub fn known(pair: Sides<'a>, minimum: u32, laid: Vec<Tile>) -> Self {
         let laid = laid.into();
         Self {
             pair,
             minimum,
             laid,
         }
+    }
+
+    /// The tiles in the order laid.
+    pub fn laid(&self) -> &[Tile] {
+        let [first, second] = self.pair;
+        let tiling = || tiling(first, second, self.minimum as usize);
+        self.laid.get_or_init(tiling)
     }
 
     /// The plain engine, and the fast one with two settings that are accepted.
@@ -101,13 +108,8 @@ impl<'a> Problem<'a> {
         held: [Vec<u32>; 2],
         refusal: u32,
     ) {
-        let Self {
-            pair,
-            minimum,
-            ref laid,
-        } = *self;
-        let tiling = || tiling(pair[0], pair[1], minimum as usize);
-        let laid = || &laid.get_or_init(tiling)[..];
+        let Self { pair, minimum, .. } = *self;
+        let laid = || self.laid();
         g.lend_holding(
             format_args!("{engine}: {case}"),
             held,

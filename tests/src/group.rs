@@ -1,7 +1,7 @@
 //! A group of cases: it has its own random numbers, counts its cases and reports each difference.
 
 use crate::random::Random;
-use sigxume::raw::{Compared, Counted, ReadAnswer};
+use sigxume::raw::{Compared, Counted, ReadAnswer, Told};
 use std::fmt::{Arguments, Debug};
 
 /// Words on both sides of a lent buffer, to see a write outside of it.
@@ -28,6 +28,12 @@ impl Answer for Counted {
 }
 
 impl Answer for Compared {
+    fn refusal(&self) -> u32 {
+        self.refusal
+    }
+}
+
+impl Answer for Told {
     fn refusal(&self) -> u32 {
         self.refusal
     }

@@ -23,6 +23,7 @@ pub mod retired;
 pub mod samples;
 pub mod series;
 pub mod stack;
+pub mod threshold;
 pub mod tool;
 pub mod tuned;
 pub mod wise;

@@ -2,16 +2,18 @@
 
 use crate::engine::{any_settings, wrong_starts, Engine, WRONG_BUCKETS};
 use crate::group::Group;
-use crate::pairs::any_pair;
+use crate::pairs::{any_pair, Pair};
 use crate::process::printed;
 use crate::random::Random;
-use crate::reference::{self, record, tiling, Curve, MAX_MINIMUM, MAX_WORDS, ROOM};
+use crate::reference::{
+    self, record, tiling, Curve, MAX_MINIMUM, MAX_THRESHOLD, MAX_WORDS, THRESHOLD,
+};
 use crate::samples::{any_length, call, faulty, ids, sequence, sound_word, unsound_word, NO_CALL};
 use crate::tool::Tool;
 use sigxume::{
-    bytes_of_words, compare, compare_plain, cover, hash_list, hash_words, read, record_words,
-    records, replaced, score, tile_words, tiles, words_match, words_of_bytes, workspace_words,
-    write, Comparer, Cover, Refusal, Settings, Symbol, Tile, COVER_WORDS,
+    at_least, bytes_of_words, compare, compare_plain, cover, hash_list, hash_words, read,
+    record_words, records, replaced, score, tile_words, tiles, words_match, words_of_bytes,
+    workspace_words, write, Comparer, Cover, Refusal, Settings, Symbol, Tile, Verdict, COVER_WORDS,
 };
 use std::cell::LazyCell;
 use std::process::Command;
@@ -43,13 +45,35 @@ fn lent(random: &mut Random, needed: usize) -> Vec<u32> {
     random.words(room)
 }
 
+/// A pair of any kind; of one in twenty the first side is refused.
+fn some_pair(random: &mut Random, longest: usize, codes: u16) -> Pair {
+    let [mut first, second] = any_pair(random, longest, codes);
+    if random.one_in(20) {
+        let long = random.one_in(2);
+        first = faulty(random, 10, long, true);
+    }
+    [first, second]
+}
+
+/// Settings of the fast engine at a minimum, of which about one in five is refused.
+fn some_settings(random: &mut Random, minimum: u32, pattern: usize) -> Settings {
+    let mut settings = any_settings(random, minimum, pattern);
+    if random.one_in(10) {
+        settings.buckets = random.pick(&WRONG_BUCKETS);
+    }
+    if random.one_in(10) {
+        settings.start = random.pick(&wrong_starts(minimum));
+    }
+    settings
+}
+
 /// Every refusal has its number and says it, with words of its own.
 pub fn refusals(g: &mut Group) {
     let table = Refusal::ALL
         .iter()
         .map(|refusal| (refusal.number(), refusal.to_string()));
     let table = Vec::from_iter(table);
-    g.equal(format_args!("all"), table.len(), ROOM as usize);
+    g.equal(format_args!("all"), table.len(), THRESHOLD as usize);
     for (at, (number, text)) in table.iter().enumerate() {
         let case = format_args!("refusal {number}, {text}");
         g.equal(case, *number as usize, at + 1);
@@ -59,7 +83,7 @@ pub fn refusals(g: &mut Group) {
         let back = Refusal::from_number(*number);
         g.equal(case, back, Some(Refusal::ALL[at]));
     }
-    for number in [0, ROOM + 1, u32::MAX] {
+    for number in [0, THRESHOLD + 1, u32::MAX] {
         let back = Refusal::from_number(number);
         g.equal(format_args!("no refusal {number}"), back, None);
     }
@@ -124,6 +148,7 @@ pub fn header(g: &mut Group) {
         ("MAX_TILE_WORDS", tile_words(MAX_WORDS, MAX_WORDS, 1)),
         ("MAX_MINIMUM", sigxume::MAX_MINIMUM as usize),
         ("MAX_BUCKETS", sigxume::MAX_BUCKETS as usize),
+        ("MAX_THRESHOLD", sigxume::MAX_THRESHOLD as usize),
         ("COVER_WORDS", COVER_WORDS),
         ("MULTIPLIER", settings.multiplier as usize),
         ("BUCKETS", settings.buckets as usize),
@@ -289,11 +314,7 @@ pub fn comparer(g: &mut Group) {
     for number in 0..4_000 {
         let random = &mut g.random;
         let (longest, codes) = (random.pick(&[5, 40, 120]), random.pick(&[2, 5, 40]));
-        let [mut first, second] = any_pair(random, longest, codes);
-        if random.one_in(20) {
-            let long = random.one_in(2);
-            first = faulty(random, 10, long, true);
-        }
+        let [first, second] = some_pair(random, longest, codes);
         let minimum = random.pick(&[0, 1, 1, 2, 3, 8, 257]);
         let [mut workspace, mut left] = [vec![0; 20_000], vec![0; 20_000]];
         let engine = Engine::Fast(Settings::for_minimum(minimum));
@@ -330,18 +351,8 @@ pub fn covers(g: &mut Group) {
     for number in 0..2_000 {
         let random = &mut g.random;
         let (longest, codes) = (random.pick(&[5, 40, 40, 120]), random.pick(&[1, 2, 5, 40]));
-        let [mut first, second] = any_pair(random, longest, codes);
-        if random.one_in(20) {
-            let long = random.one_in(2);
-            first = faulty(random, 10, long, true);
-        }
-        let mut settings = any_settings(random, 1, first.len());
-        if random.one_in(10) {
-            settings.buckets = random.pick(&WRONG_BUCKETS);
-        }
-        if random.one_in(10) {
-            settings.start = random.pick(&wrong_starts(1));
-        }
+        let [first, second] = some_pair(random, longest, codes);
+        let settings = some_settings(random, 1, first.len());
         let (n, m) = (first.len(), second.len());
         let rooms = [workspace_words(n, m), tile_words(n, m, 1)];
         let [mut workspace, mut laid] = rooms.map(|needed| lent(random, needed));
@@ -383,6 +394,53 @@ fn at_minimums(g: &mut Group, cover: &Cover) {
     g.equal(case, Vec::from_iter(entries), Vec::from_iter(due));
     let none = [0, MAX_MINIMUM + 1, u32::MAX].map(|minimum| cover.covered_at(minimum));
     g.equal(case, none, [None; 3]);
+}
+
+/// Questions about a threshold, with a workspace around the size that the library names, and by one comparer over all
+/// pairs.
+pub fn thresholds(g: &mut Group) {
+    let mut comparer = Comparer::new();
+    for number in 0..6_000 {
+        let random = &mut g.random;
+        let (longest, codes) = (random.pick(&[5, 40, 40, 120]), random.pick(&[1, 2, 5, 40]));
+        let [first, second] = some_pair(random, longest, codes);
+        let minimum = random.pick(&[0, 1, 1, 2, 2, 3, 8, 256, 257]);
+        let any = random.below(MAX_THRESHOLD as usize + 1) as u32;
+        let threshold = random.pick(&[0, any, any, any, any, 1_000, 1_001, u32::MAX]);
+        let settings = some_settings(random, minimum, first.len());
+        let (n, m) = (first.len(), second.len());
+        let mut workspace = lent(random, workspace_words(n, m));
+        let pair = [&first[..], &second[..]];
+        let laid = LazyCell::new(|| tiling(&first, &second, minimum as usize));
+        let due = |settings, workspace: &mut [u32]| {
+            let laid = || &laid[..];
+            let told = reference::at_least(settings, pair, minimum, threshold, laid, workspace);
+            expected(told.refusal, (told.reached == 1, told.tiles as usize))
+        };
+        let said = |verdict: Verdict| (verdict.reached, verdict.tiles);
+
+        let case = format_args!(
+            "pair {number}, {n} and {m} words, minimum {minimum}, threshold {threshold}"
+        );
+        let mut left = workspace.clone();
+        let expected = due(settings, &mut left);
+        let result = at_least(
+            &first,
+            &second,
+            minimum,
+            threshold,
+            settings,
+            &mut workspace,
+        );
+        g.equal(case, numbered(result.map(said)), expected);
+        g.equal(case, workspace, left);
+
+        let case = format_args!("pair {number}, {n} and {m} words, by a comparer");
+        let mut left = vec![0; workspace_words(n, m)];
+        let expected = due(Settings::for_minimum(minimum), &mut left);
+        let result = comparer.at_least(&first, &second, minimum, threshold);
+        g.equal(case, numbered(result.map(said)), expected);
+    }
 }
 
 /// Reads covered counts and sums of lengths, and prints the score that the header makes of each.

@@ -1,10 +1,10 @@
 //! The reference: what the scope paper (01) says, and after it the requests (02), written the most
 //! direct way and apart from the core. The comments quote 01, or 02 where they say so; a sequence is
-//! their strand, a record their strip, a header their heading, a trailer their closing word and an id
-//! their fish number.
+//! their strand, a record their strip, a header their heading, a trailer their closing word, an id their
+//! fish number and a threshold their line.
 
 use crate::engine::Engine;
-use sigxume::raw::{Compared, Counted, ReadAnswer};
+use sigxume::raw::{Compared, Counted, ReadAnswer, Told};
 use sigxume::Settings;
 use std::array;
 use std::borrow::Borrow;
@@ -21,6 +21,9 @@ pub const MAX_BUCKETS: u32 = 1_024;
 /// 02: "entry k, from 0 to 255, holds the covered count at minimum k + 1".
 pub const COVER_WORDS: usize = 256;
 
+/// 02, U5: "given a line from 0 to 1,000".
+pub const MAX_THRESHOLD: u32 = 1_000;
+
 // The refusals' numbers in 01's table.
 pub const TOO_LONG: u32 = 1;
 pub const UNSOUND: u32 = 2;
@@ -34,6 +37,8 @@ pub const CUT: u32 = 8;
 pub const HEADER: u32 = 9;
 pub const TRAILER: u32 = 10;
 pub const ROOM: u32 = 11;
+/// 02, U5: "a line above 1,000 is 12".
+pub const THRESHOLD: u32 = 12;
 
 /// Refuses with a number where its cause holds. Calls in a row check causes in that order.
 fn refuse(cause: bool, number: u32) -> Result<(), u32> {
@@ -496,6 +501,75 @@ pub fn cover<C: Borrow<Curve>>(
             accept(laid, sequences.map(<[u32]>::len), workspace, tiles)
         }
     }
+}
+
+/// The words of "the pattern's free stretches of at least the minimum length" (02, U5), after these tiles. A
+/// word is free that none of them covers. So a no-call is free, counts, and ends no stretch.
+fn free_words(sequences: [&[u32]; 2], minimum: usize, laid: &[Tile]) -> usize {
+    let [first, second] = sequences;
+    let of_first = first_is_pattern(first, second);
+    let pattern = if of_first { first } else { second };
+    let mut free = vec![true; pattern.len()];
+    for tile in laid {
+        let start = if of_first { tile.first } else { tile.second };
+        free[start..start + tile.length].fill(false);
+    }
+    let stretches = free.split(|free| !free).map(<[bool]>::len);
+    stretches.filter(|&length| length >= minimum).sum()
+}
+
+/// The score of these tiles' "covered count", and the score "with the pattern's free stretches [..] added".
+pub fn within(sequences: [&[u32]; 2], minimum: usize, laid: &[Tile]) -> [usize; 2] {
+    let [first, second] = sequences.map(<[u32]>::len);
+    let covered = covered(laid);
+    [covered, covered + free_words(sequences, minimum, laid)]
+        .map(|covered| score(covered, first, second))
+}
+
+/// The tiles laid until it is decided about a threshold, of all tiles: "the fewest, 0 included, after which
+/// their covered count scores at least the line, or less even with the pattern's free stretches of at least the
+/// minimum length added; else the whole list".
+fn deciding(sequences: [&[u32]; 2], minimum: usize, threshold: usize, laid: &[Tile]) -> usize {
+    let decided = |&count: &usize| {
+        let [least, most] = within(sequences, minimum, &laid[..count]);
+        least >= threshold || most < threshold
+    };
+    (0..=laid.len()).find(decided).unwrap_or(laid.len())
+}
+
+/// Whether a pair scores at least a threshold (02, U5): "say yes exactly when the full comparison's score is at
+/// least the line". `laid` gives all tiles of the pair and is only asked where the question is accepted.
+pub fn at_least<T: Borrow<[Tile]>>(
+    settings: Settings,
+    sequences: [&[u32]; 2],
+    minimum: u32,
+    threshold: u32,
+    laid: impl FnOnce() -> T,
+    workspace: &mut [u32],
+) -> Told {
+    // "No tile buffer is lent", so none is too short.
+    let rooms = [workspace.len(), usize::MAX];
+    // "A line above 1,000 is 12, after 6."
+    let checked = check(Engine::Fast(settings), sequences, minimum, rooms)
+        .and_then(|()| refuse(threshold > MAX_THRESHOLD, THRESHOLD));
+    let mut told = Told {
+        refusal: 0,
+        reached: 0,
+        tiles: 0,
+    };
+    match checked {
+        Err(refusal) => told.refusal = refusal,
+        Ok(()) => {
+            let laid = laid();
+            let laid = laid.borrow();
+            let [first, second] = sequences.map(<[u32]>::len);
+            let [minimum, threshold] = [minimum, threshold].map(|number| number as usize);
+            told.reached = (score(covered(laid), first, second) >= threshold).into();
+            told.tiles = deciding(sequences, minimum, threshold, laid) as u32;
+            workspace.fill(0);
+        }
+    }
+    told
 }
 
 /// What is printed of a comparison: "fish numbers; minimum; tile count; per tile first start, second

@@ -9,7 +9,7 @@ use crate::process::{self, lossy, AT_ONCE};
 use crate::program;
 use crate::random::Random;
 use crate::reference::{
-    self, hash_list, record, tile_words, workspace_words, COVER_WORDS, MAX_WORDS,
+    self, hash_list, record, tile_words, workspace_words, COVER_WORDS, MAX_THRESHOLD, MAX_WORDS,
 };
 use crate::samples::NO_CALL;
 use crate::tool::PROGRAMS;
@@ -146,6 +146,28 @@ pub fn cover(g: &mut Group) {
                 |lent| within(&case, THREAD, || cover(lent)),
                 cover,
             );
+        }
+    }
+}
+
+/// Whether a threshold is reached, by the fast engine.
+pub fn threshold(g: &mut Group) {
+    for (name, [first, second], minimum) in pairs(&mut g.random) {
+        let room = workspace_words(first.len(), second.len());
+        for settings in settings(minimum) {
+            for threshold in [0, 300, MAX_THRESHOLD] {
+                let case = format!("{name}, threshold {threshold}, {}", Engine::Fast(settings));
+                let at_least = |[workspace]: [&mut [u32]; 1]| {
+                    raw::at_least_fast(&first, &second, minimum, threshold, settings, workspace)
+                };
+                g.lend(
+                    format_args!("{case}"),
+                    [room],
+                    Some(0),
+                    |lent| within(&case, THREAD, || at_least(lent)),
+                    at_least,
+                );
+            }
         }
     }
 }

@@ -23,11 +23,14 @@ pub mod picture;
 pub mod plot;
 pub mod progress;
 pub mod python;
+pub mod ranking;
 pub mod results;
 pub mod round_trips;
+pub mod sides;
 pub mod svg;
 pub mod unreadable;
 pub mod usage;
+pub mod verdict;
 
 use crate::group::Group;
 use crate::process::{self, lossy, AT_ONCE};

@@ -7,9 +7,10 @@ use crate::input::{Form, Reader};
 use crate::layout::{Layout, Lines, Table};
 use crate::matrix::Matrix;
 use crate::output::{self, Output};
-use crate::pairs::Pairs;
+use crate::pairs::Sides;
+use crate::ranking::Ranking;
 use crate::usage::Arguments;
-use crate::{curves, listing, plot, text};
+use crate::{curves, listing, plot, text, verdict};
 use sigxume::{bytes_of_words, Comparer, Refusal, Symbol, Tiling};
 use std::io::{self, IsTerminal};
 use std::num::NonZeroUsize;
@@ -44,28 +45,53 @@ fn read_all(arguments: &Arguments, form: Form) -> Result<Vec<Fish>, Failure> {
 }
 
 pub fn compare(arguments: Arguments) -> Result<(), Failure> {
+    if let Some(threshold) = arguments.at_least {
+        return verdict(&arguments, threshold);
+    }
     let show = if arguments.json {
         listing::json
     } else {
         listing::listing
     };
-    one_pair(&arguments, show)
+    tiles(&arguments, show)
 }
 
 pub fn plot(arguments: Arguments) -> Result<(), Failure> {
-    one_pair(&arguments, plot::plot)
+    tiles(&arguments, plot::plot)
+}
+
+/// One pair's tiles, as they are shown.
+fn tiles(
+    arguments: &Arguments,
+    show: fn([&Fish; 2], u32, Tiling) -> String,
+) -> Result<(), Failure> {
+    one_pair(arguments, |comparer, pair| {
+        let [first, second] = pair.map(|fish| &fish.sequence);
+        let tiling = comparer.compare(first, second, arguments.minimum)?;
+        Ok(show(pair, arguments.minimum, tiling))
+    })
+}
+
+/// Whether one pair reaches a threshold.
+fn verdict(arguments: &Arguments, threshold: u32) -> Result<(), Failure> {
+    one_pair(arguments, |comparer, pair| {
+        let [first, second] = pair.map(|fish| &fish.sequence);
+        let verdict = comparer.at_least(first, second, arguments.minimum, threshold)?;
+        Ok(if arguments.json {
+            verdict::json(pair, arguments.minimum, threshold, verdict)
+        } else {
+            verdict::lines(threshold, verdict)
+        })
+    })
 }
 
 fn one_pair(
     arguments: &Arguments,
-    show: fn([&Fish; 2], u32, Tiling) -> String,
+    text: impl FnOnce(&mut Comparer, [&Fish; 2]) -> Result<String, Refusal>,
 ) -> Result<(), Failure> {
     let fish = read_all(arguments, Form::Either)?;
     let pair = fish::pair(&fish, arguments.fish.first().copied())?;
-    let mut comparer = Comparer::new();
-    let [first, second] = pair.map(|fish| &fish.sequence);
-    let tiling = comparer.compare(first, second, arguments.minimum)?;
-    let text = show(pair, arguments.minimum, tiling);
+    let text = text(&mut Comparer::new(), pair)?;
     output::write(arguments.output.as_deref(), text.as_bytes())
 }
 
@@ -94,28 +120,38 @@ pub fn matrix(arguments: Arguments) -> Result<(), Failure> {
         left_out: false,
     };
     let fish = reader.fish(&arguments.operands, Form::Either)?;
-    // The core has to refuse a minimum even where there is no pair.
-    Comparer::new().compare(&[], &[], arguments.minimum)?;
+    let others = reader.fish(arguments.against.as_slice(), Form::Either)?;
+    // The core has to refuse a minimum, and a threshold, even where there is no pair.
+    let threshold = arguments.at_least;
+    Comparer::new().at_least(&[], &[], arguments.minimum, threshold.unwrap_or(0))?;
 
-    let pairs = Pairs::count(fish.len());
+    let sides = Sides {
+        rows: &fish,
+        against: arguments.against.is_some().then_some(&others),
+    };
+    let pairs = sides.count();
     let cores = || thread::available_parallelism().map_or(1, NonZeroUsize::get);
     let matrix = Matrix {
-        fish: &fish,
+        sides,
         minimum: arguments.minimum,
+        threshold,
         pairs: arguments.part.map_or(0..pairs, |part| part.of(pairs)),
         threads: arguments.threads.map_or_else(cores, NonZeroUsize::get),
     };
     let mut layout: Box<dyn Layout> = if arguments.pairs {
-        Box::new(Lines { fish: &fish })
+        Box::new(Lines { sides })
+    } else if threshold.is_some() {
+        let most = arguments.top.map_or(usize::MAX, NonZeroUsize::get);
+        Box::new(Ranking::new(sides, most))
     } else {
-        Box::new(Table::new(&fish))
+        Box::new(Table::new(sides))
     };
     let mut output = Output::open(arguments.output.as_deref())?;
     if arguments.part.is_none_or(|part| part.number == 1) {
         output.write(layout.head().as_bytes())?;
     }
     matrix.write(&mut *layout, &mut output)?;
-    output.write(layout.tail().as_bytes())?;
+    layout.tail(&mut output)?;
     output.finish()?;
     if reader.left_out {
         return Err(Failure::Quiet);

@@ -158,9 +158,11 @@ Examples
 
 pub const COMPARE: &str = concat!(
     "\
-Compares two fish: lists the stretches that they share, and the score.
+Compares two fish: lists the stretches that they share, and the score; or only
+says whether the score reaches a line.
 
-Usage: sigxume compare -m N [--fish A,B] [--json] [-o FILE] FILE [FILE]
+Usage: sigxume compare -m N [--fish A,B] [--at-least L] [--json] [-o FILE]
+                       FILE [FILE]
 
 ",
     shared!(pair),
@@ -168,7 +170,8 @@ Usage: sigxume compare -m N [--fish A,B] [--json] [-o FILE] FILE [FILE]
 Options
   -m, --minimum N     the least words of a tile; it must be given
       --fish A,B      compare fish A with fish B
-      --json          JSON in place of the listing
+      --at-least L    only say whether the score is at least L, from 0 to 1000
+      --json          JSON in place of the listing, or of yes and no
 ",
     shared!(output),
     shared!(help),
@@ -187,10 +190,20 @@ The listing
   COVERED 7 OF 7 12  the tiles cover 7 words, of 7 and of 12
   SCORE 736          2000 times 7, divided by 7 plus 12: from 0 to 1000
 
+With --at-least
+  AT LEAST 500 YES   the score is 500 or more; NO if it is less
+  TILES 1            so many tiles were laid until that was known
+
+  It is known when the tiles laid so far reach L by themselves; when they would
+  not reach it even with all free stretches of at least N words of the shorter
+  fish; or when all are laid. That may be before the first tile. The answer is
+  always that of the whole comparison. The exit status is 0 for yes and for no.
+
 JSON
   One line. fish, lengths: of the first and the second; minimum, covered,
   score; tiles: for each its start in first and in second, its length and its
-  shift, in the order of the listing.
+  shift, in the order of the listing. With --at-least: fish, lengths, minimum;
+  threshold: L; reached: true or false; tiles: how many were laid.
 
 ",
     shared!(status),
@@ -198,6 +211,7 @@ JSON
 Examples
   sigxume compare -m 1 fish.txt
   sigxume compare -m 8 --fish 12,13 --json fish.txt
+  sigxume compare -m 8 --fish 12,13 --at-least 500 fish.txt
 "
 );
 
@@ -291,7 +305,7 @@ Examples
 pub const MATRIX: &str = concat!(
     "\
 Compares every two of many fish: a table of scores, as CSV, which a
-spreadsheet opens.
+spreadsheet opens; or a list of the pairs that reach a line.
 
 Usage: sigxume matrix -m N [OPTION...] PATH...
 
@@ -306,6 +320,11 @@ Options
       --pairs         a line for each pair, in place of the table
       --part K/N      with --pairs: part K of N, so that N machines can share
                       the work; the parts one after another are the whole
+      --at-least L    in place of the table a list of the pairs with a score of
+                      at least L, from 0 to 1000
+      --top N         with --at-least: the first N of the list
+      --against PATH  compare each fish of the operands with each one of PATH,
+                      a file or a folder, and no others
   -k, --keep-going    leave out what is bad, and say so
       --threads N     use N threads; otherwise as many as there are cores
 ",
@@ -330,6 +349,29 @@ The table
     row,column,first_fish,second_fish,tiles,covered,score
     1,2,12,13,3,7,736
 
+With --at-least
+  The pairs that reach L are listed, the highest score first. Equal scores are
+  in the order of --pairs, and rows and columns are counted as there:
+
+    row,column,first_fish,second_fish,covered,score
+    2,3,13,14,10,800
+    1,2,12,13,7,736
+
+  Each pair is asked as by 'sigxume compare --at-least'. Only those that reach L
+  are compared to the end, which gives covered and score.
+
+With --against
+  The fish of the operands are the rows, those of PATH the columns, each side
+  counted from 1. So dams are compared with sires, and neither with their own:
+
+    fish,20,21
+    12,736,500
+    13,285,0
+
+  It goes with --pairs and with --at-least too. The same file may be on both
+  sides: then each fish is compared with itself as well, and with every other
+  one twice.
+
 With --keep-going
   Of a file of text only the bad lines are left out; of a file of records the
   bad one and all after it; a file that cannot be read, whole. The rest is
@@ -341,6 +383,8 @@ With --keep-going
 Examples
   sigxume matrix -m 8 -o scores.csv fish.txt
   sigxume matrix -m 8 --pairs fish.txt
+  sigxume matrix -m 8 --at-least 300 --top 20 fish.txt
+  sigxume matrix -m 8 --at-least 300 --against sires.txt dams.txt
 "
 );
 

@@ -117,13 +117,16 @@ impl Reader {
 }
 
 /// A file that is read must not be written over: the fish in it would be lost.
-pub fn spare(operands: &[OsString], output: Option<&Path>) -> Result<(), Failure> {
+pub fn spare<'a>(
+    inputs: impl Iterator<Item = &'a OsString>,
+    output: Option<&Path>,
+) -> Result<(), Failure> {
     let Some((output, Ok(to))) = output.map(|output| (output, fs::canonicalize(output))) else {
         return Ok(());
     };
     let folder = to.parent().filter(|_| !hidden(&to));
-    let named = operands.iter().filter(|operand| *operand != "-");
-    let mut read = named.filter_map(|operand| fs::canonicalize(operand).ok());
+    let named = inputs.filter(|input| *input != "-");
+    let mut read = named.filter_map(|input| fs::canonicalize(input).ok());
     if to.is_file() && read.any(|from| from == to || Some(&*from) == folder) {
         let message = format!("-o names a file that is read: {}", output.display());
         return Err(Failure::Usage(message));
@@ -147,13 +150,13 @@ fn bytes_of(operand: &OsStr) -> io::Result<Vec<u8>> {
     Ok(bytes)
 }
 
-/// The files of a folder, but not those whose names begin with a dot.
 /// Whether a file's name begins with a dot.
 fn hidden(path: &Path) -> bool {
     let name = path.file_name().unwrap_or_default();
     name.as_encoded_bytes().starts_with(b".")
 }
 
+/// The files of a folder, but not those whose names begin with a dot.
 fn files_of(folder: &Path) -> io::Result<Vec<OsString>> {
     let mut files = Vec::new();
     for file in fs::read_dir(folder)? {

@@ -1,10 +1,12 @@
-//! The two layouts of the matrix, as CSV: the table of scores, and a line for each pair.
+//! Two layouts of the matrix, as CSV: the table of scores, and a line for each pair.
 
-use crate::fish::Fish;
-use crate::pairs::Pair;
+use crate::failure::Failure;
+use crate::output::Output;
+use crate::pairs::{Pair, Sides};
 use sigxume::Comparison;
 use std::fmt::Write;
 use std::mem;
+use std::ops::Range;
 
 /// A fish gets room for so many scores at a time. To double it each time would take up to twice as much in all.
 const ROOM: usize = 256;
@@ -17,32 +19,52 @@ pub trait Layout {
     /// Adds a pair's part.
     fn pair(&mut self, text: &mut String, pair: Pair, answer: Comparison);
 
-    /// What stands below the last pair.
-    fn tail(&mut self) -> String;
+    /// Writes what stands below the last pair.
+    fn tail(&mut self, output: &mut Output) -> Result<(), Failure>;
 }
 
-/// The table: each score stands on both sides of the diagonal, which is empty.
+/// How the heading of lines about pairs begins.
+pub const NAMED: &str = "row,column,first_fish,second_fish";
+
+/// How a line about a pair begins: with its row and its column, counted from 1, and the numbers of its fish.
+pub fn named(sides: Sides, pair: Pair) -> String {
+    let [first, second] = sides.fish(pair).map(|fish| fish.id);
+    let (row, column) = pair;
+    format!("{},{},{first},{second}", row + 1, column + 1)
+}
+
+/// The table. Of one side each score stands on both sides of the diagonal, which is empty.
 pub struct Table<'a> {
-    fish: &'a [Fish],
-    /// For each fish its scores with those before it, until they are written.
+    sides: Sides<'a>,
+    /// For each fish of the only side its scores with those before it, until they are written.
     earlier: Vec<Vec<u16>>,
+    /// How many rows are begun.
+    begun: usize,
 }
 
 /// A line for each pair.
 pub struct Lines<'a> {
-    pub fish: &'a [Fish],
+    pub sides: Sides<'a>,
 }
 
 // Writing to a string cannot fail, so the answers of `write!` are dropped.
 impl<'a> Table<'a> {
-    pub fn new(fish: &'a [Fish]) -> Self {
-        let earlier = vec![Vec::new(); fish.len()];
-        Self { fish, earlier }
+    pub fn new(sides: Sides<'a>) -> Self {
+        Self {
+            sides,
+            earlier: vec![Vec::new(); sides.rows.len()],
+            begun: 0,
+        }
     }
 
-    /// A row up to its empty cell on the diagonal: the scores of earlier rows.
-    fn begin(&mut self, text: &mut String, row: usize) {
-        let _ = write!(text, "{}", self.fish[row].id);
+    /// The next row up to the scores that are still to come; of one side these are past its empty cell on the diagonal.
+    fn begin(&mut self, text: &mut String) {
+        let row = self.begun;
+        self.begun += 1;
+        let _ = write!(text, "{}", self.sides.rows[row].id);
+        if self.sides.against.is_some() {
+            return;
+        }
         for score in mem::take(&mut self.earlier[row]) {
             let _ = write!(text, ",{score}");
         }
@@ -53,60 +75,59 @@ impl<'a> Table<'a> {
 impl Layout for Table<'_> {
     fn head(&self) -> String {
         let mut text = String::from("fish");
-        for fish in self.fish {
+        for fish in self.sides.columns() {
             let _ = write!(text, ",{}", fish.id);
         }
         text + "\n"
     }
 
     fn pair(&mut self, text: &mut String, (row, column): Pair, answer: Comparison) {
-        if column == row + 1 {
-            self.begin(text, row);
+        let Range { start, end } = self.sides.partners(row);
+        if column == start {
+            self.begin(text);
         }
         let score = u16::try_from(answer.score).expect("a score is at most 1000");
         let _ = write!(text, ",{score}");
-        let earlier = &mut self.earlier[column];
-        if earlier.len() == earlier.capacity() {
-            earlier.reserve_exact(ROOM);
+        if self.sides.against.is_none() {
+            let earlier = &mut self.earlier[column];
+            if earlier.len() == earlier.capacity() {
+                earlier.reserve_exact(ROOM);
+            }
+            earlier.push(score);
         }
-        earlier.push(score);
-        if column + 1 == self.fish.len() {
+        if column + 1 == end {
             text.push('\n');
         }
     }
 
-    /// The last fish's row: it has no later fish.
-    fn tail(&mut self) -> String {
+    /// The rows without a pair: of one side the last one, which has no later fish; of two sides none, or all.
+    fn tail(&mut self, output: &mut Output) -> Result<(), Failure> {
         let mut text = String::new();
-        if let Some(row) = self.fish.len().checked_sub(1) {
-            self.begin(&mut text, row);
+        while self.begun < self.sides.rows.len() {
+            self.begin(&mut text);
             text.push('\n');
         }
-        text
+        output.write(text.as_bytes())
     }
 }
 
 impl Layout for Lines<'_> {
     fn head(&self) -> String {
-        "row,column,first_fish,second_fish,tiles,covered,score\n".into()
+        format!("{NAMED},tiles,covered,score\n")
     }
 
-    fn pair(&mut self, text: &mut String, (row, column): Pair, answer: Comparison) {
+    fn pair(&mut self, text: &mut String, pair: Pair, answer: Comparison) {
+        let pair = named(self.sides, pair);
         let Comparison {
             tiles,
             covered,
             score,
             ..
         } = answer;
-        let [first, second] = [row, column].map(|at| self.fish[at].id);
-        let (row, column) = (row + 1, column + 1);
-        let _ = writeln!(
-            text,
-            "{row},{column},{first},{second},{tiles},{covered},{score}"
-        );
+        let _ = writeln!(text, "{pair},{tiles},{covered},{score}");
     }
 
-    fn tail(&mut self) -> String {
-        String::new()
+    fn tail(&mut self, _: &mut Output) -> Result<(), Failure> {
+        Ok(())
     }
 }

@@ -18,9 +18,11 @@ mod output;
 mod pairs;
 mod plot;
 mod progress;
+mod ranking;
 mod svg;
 mod text;
 mod usage;
+mod verdict;
 
 use failure::Failure;
 use std::env;
@@ -59,7 +61,7 @@ const SUBCOMMANDS: [Subcommand; 7] = [
     Subcommand {
         name: "compare",
         accepted: Accepted {
-            options: &["minimum", "fish", "json", "output"],
+            options: &["minimum", "fish", "at-least", "json", "output"],
             repeated: &[],
             operands: 1..=2,
         },
@@ -93,6 +95,9 @@ const SUBCOMMANDS: [Subcommand; 7] = [
                 "minimum",
                 "pairs",
                 "part",
+                "at-least",
+                "top",
+                "against",
                 "keep-going",
                 "threads",
                 "output",
@@ -142,7 +147,7 @@ impl Subcommand {
         if parsed.help {
             return print(self.help);
         }
-        input::spare(&parsed.operands, parsed.output.as_deref())?;
+        input::spare(parsed.inputs(), parsed.output.as_deref())?;
         (self.run)(parsed)
     }
 }

@@ -1,10 +1,9 @@
-//! Every pair of fish: the comparisons are shared out among threads, and their answers are written in order.
+//! Many pairs of fish: the comparisons are shared out among threads, and their answers are laid out in order.
 
 use crate::failure::Failure;
-use crate::fish::Fish;
 use crate::layout::Layout;
 use crate::output::Output;
-use crate::pairs::{Pair, Pairs};
+use crate::pairs::{Pair, Sides};
 use crate::progress::Progress;
 use sigxume::{Comparer, Comparison, Refusal};
 use std::collections::BTreeMap;
@@ -15,8 +14,10 @@ use std::sync::{Mutex, PoisonError};
 use std::thread::{self, Builder};
 
 pub struct Matrix<'a> {
-    pub fish: &'a [Fish],
+    pub sides: Sides<'a>,
     pub minimum: u32,
+    /// Where there is one, the pairs that do not reach it are passed over.
+    pub threshold: Option<u32>,
     /// The numbers of the pairs that are compared.
     pub pairs: Range<usize>,
     pub threads: usize,
@@ -31,7 +32,7 @@ const OUT: usize = 64;
 /// Pairs that a thread compares in one go, with their place in the order.
 type Chunk = (usize, Vec<Pair>);
 
-/// The pairs of a chunk with what was answered of each, or why there is nothing.
+/// The pairs of a chunk with what was answered of each, without those that are passed over; or why there is nothing.
 type Answer = (usize, Result<Vec<(Pair, Comparison)>, Refusal>);
 
 impl Matrix<'_> {
@@ -40,7 +41,7 @@ impl Matrix<'_> {
         let total = self.pairs.len();
         let size = (total / self.threads / 64).clamp(1, MOST);
         let threads = self.threads.min(total.div_ceil(size));
-        let mut pairs = Pairs::from(self.fish.len(), self.pairs.start).take(total);
+        let mut pairs = self.sides.pairs().skip(self.pairs.start).take(total);
         let chunks = iter::repeat_with(|| Vec::from_iter(pairs.by_ref().take(size)));
         let mut chunks = chunks.enumerate().take(total.div_ceil(size));
 
@@ -127,12 +128,24 @@ impl Matrix<'_> {
         comparer: &mut Comparer,
         pairs: Vec<Pair>,
     ) -> Result<Vec<(Pair, Comparison)>, Refusal> {
-        let compare = |(row, column): Pair| {
-            let [first, second] = [row, column].map(|at| &self.fish[at].sequence);
-            let tiling = comparer.compare(first, second, self.minimum)?;
-            Ok(((row, column), tiling.answer()))
+        let compare = |pair| {
+            let compared = self.compare(comparer, pair).transpose()?;
+            Some(compared.map(|answer| (pair, answer)))
         };
-        pairs.into_iter().map(compare).collect()
+        pairs.into_iter().filter_map(compare).collect()
+    }
+
+    /// What is answered of a pair, or nothing where it is passed over.
+    fn compare(&self, comparer: &mut Comparer, pair: Pair) -> Result<Option<Comparison>, Refusal> {
+        let [first, second] = self.sides.fish(pair).map(|fish| &fish.sequence);
+        if let Some(threshold) = self.threshold {
+            let verdict = comparer.at_least(first, second, self.minimum, threshold)?;
+            if !verdict.reached {
+                return Ok(None);
+            }
+        }
+        let tiling = comparer.compare(first, second, self.minimum)?;
+        Ok(Some(tiling.answer()))
     }
 }
 

@@ -1,50 +1,46 @@
-//! The pairs of so many fish, in order: (1, 2), (1, 3), .., (2, 3), ..; here counted from 0.
+//! The fish that are compared, and their pairs in order. Rows and columns are here counted from 0.
 
+use crate::fish::Fish;
 use crate::usage::Part;
 use std::ops::Range;
 
 /// The row and the column of a pair.
 pub type Pair = (usize, usize);
 
-/// Goes through the pairs.
-pub struct Pairs {
-    fish: usize,
-    row: usize,
-    column: usize,
+/// The fish that are compared: every two of one side, or each of one side with each of the other.
+#[derive(Clone, Copy)]
+pub struct Sides<'a> {
+    pub rows: &'a [Fish],
+    /// The other side, where there is one.
+    pub against: Option<&'a [Fish]>,
 }
 
-impl Pairs {
+impl<'a> Sides<'a> {
+    /// The fish of the columns: those of the rows, where there is one side.
+    pub fn columns(self) -> &'a [Fish] {
+        self.against.unwrap_or(self.rows)
+    }
+
+    /// The columns that a row is compared with: all of the other side, or those after it.
+    pub fn partners(self, row: usize) -> Range<usize> {
+        let start = if self.against.is_some() { 0 } else { row + 1 };
+        start..self.columns().len()
+    }
+
+    pub fn fish(self, (row, column): Pair) -> [&'a Fish; 2] {
+        [&self.rows[row], &self.columns()[column]]
+    }
+
+    /// Goes through the pairs, row by row.
+    pub fn pairs(self) -> impl Iterator<Item = Pair> + 'a {
+        let rows = 0..self.rows.len();
+        rows.flat_map(move |row| self.partners(row).map(move |column| (row, column)))
+    }
+
     /// How many there are.
-    pub fn count(fish: usize) -> usize {
-        fish * fish.saturating_sub(1) / 2
-    }
-
-    /// Those from a number on.
-    pub fn from(fish: usize, mut number: usize) -> Self {
-        let mut row = 0;
-        while row + 1 < fish && number >= fish - row - 1 {
-            number -= fish - row - 1;
-            row += 1;
-        }
-        let column = row + 1 + number;
-        Self { fish, row, column }
-    }
-}
-
-impl Iterator for Pairs {
-    type Item = Pair;
-
-    fn next(&mut self) -> Option<Self::Item> {
-        if self.column >= self.fish {
-            return None;
-        }
-        let pair = (self.row, self.column);
-        self.column += 1;
-        if self.column == self.fish {
-            self.row += 1;
-            self.column = self.row + 1;
-        }
-        Some(pair)
+    pub fn count(self) -> usize {
+        let rows = 0..self.rows.len();
+        rows.map(|row| self.partners(row).len()).sum()
     }
 }
 

@@ -12,6 +12,10 @@ use Takes::{Nothing, Value};
 #[derive(Default)]
 pub struct Arguments {
     pub minimum: u32,
+    /// The threshold: the line that scores must reach.
+    pub at_least: Option<u32>,
+    /// The most pairs of a list.
+    pub top: Option<NonZeroUsize>,
     pub output: Option<PathBuf>,
     /// One pair at most, but where `--fish` may be repeated.
     pub fish: Vec<[u16; 2]>,
@@ -20,6 +24,8 @@ pub struct Arguments {
     pub plot: bool,
     pub pairs: bool,
     pub part: Option<Part>,
+    /// Where the fish of the other side are.
+    pub against: Option<OsString>,
     pub threads: Option<NonZeroUsize>,
     pub keep_going: bool,
     pub help: bool,
@@ -54,12 +60,28 @@ enum Takes {
     Value(&'static str, fn(&mut Arguments, &OsStr) -> Option<()>),
 }
 
-const TABLE: [Row; 11] = [
+const TABLE: [Row; 14] = [
     Row {
         long: "minimum",
         short: Some(b'm'),
         takes: Value("a number from 1 to 256", |arguments, value| {
             arguments.minimum = number(value.to_str()?)?;
+            Some(())
+        }),
+    },
+    Row {
+        long: "at-least",
+        short: None,
+        takes: Value("a number from 0 to 1000", |arguments, value| {
+            arguments.at_least = Some(number(value.to_str()?)?);
+            Some(())
+        }),
+    },
+    Row {
+        long: "top",
+        short: None,
+        takes: Value("a number from 1", |arguments, value| {
+            arguments.top = Some(number(value.to_str()?)?);
             Some(())
         }),
     },
@@ -112,6 +134,14 @@ const TABLE: [Row; 11] = [
         }),
     },
     Row {
+        long: "against",
+        short: None,
+        takes: Value("the name of a file or a folder", |arguments, value| {
+            arguments.against = Some(value.into());
+            (!value.is_empty()).then_some(())
+        }),
+    },
+    Row {
         long: "threads",
         short: None,
         takes: Value("a number from 1", |arguments, value| {
@@ -131,8 +161,18 @@ const TABLE: [Row; 11] = [
     },
 ];
 
-/// Each of these chooses what is written, so one alone may be given.
-const FORMS: [&str; 3] = ["all", "json", "plot"];
+/// The options that go with another one only.
+const NEEDS: [(&str, &str); 2] = [("part", "pairs"), ("top", "at-least")];
+
+/// Each of these chooses what is written, so of each list one alone may be given.
+const FORMS: [&[&str]; 2] = [&["all", "json", "plot"], &["pairs", "at-least"]];
+
+impl Arguments {
+    /// All that is read: the operands, then the other side.
+    pub fn inputs(&self) -> impl Iterator<Item = &OsString> {
+        self.operands.iter().chain(&self.against)
+    }
+}
 
 /// Digits only: Rust's own reading takes a sign too.
 fn number<T: FromStr>(text: &str) -> Option<T> {
@@ -187,13 +227,7 @@ pub fn parse(arguments: &[OsString], accepted: &Accepted) -> Result<Arguments, S
     if accepted.options.contains(&"minimum") && !given.contains(&"minimum") {
         return Err("the minimum is missing: -m N".into());
     }
-    if parsed.part.is_some() && !parsed.pairs {
-        return Err("--part goes with --pairs only".into());
-    }
-    given.retain(|option| FORMS.contains(option));
-    if let [one, other, ..] = *given {
-        return Err(format!("--{one} does not go with --{other}"));
-    }
+    together(&given, &parsed)?;
     let [least, most] = [accepted.operands.start(), accepted.operands.end()];
     match parsed.operands.len() {
         found if found < *least => Err("no file is named".into()),
@@ -201,6 +235,27 @@ pub fn parse(arguments: &[OsString], accepted: &Accepted) -> Result<Arguments, S
         found if found > *most => Err(format!("{found} files are named, at most {most} are taken")),
         _ => Ok(parsed),
     }
+}
+
+/// Whether options go together that are right each by itself.
+fn together(given: &[&str], parsed: &Arguments) -> Result<(), String> {
+    for (option, other) in NEEDS {
+        if given.contains(&option) && !given.contains(&other) {
+            return Err(format!("--{option} goes with --{other} only"));
+        }
+    }
+    for forms in FORMS {
+        let chosen = given.iter().filter(|option| forms.contains(option));
+        if let [one, other, ..] = *Vec::from_iter(chosen) {
+            return Err(format!("--{one} does not go with --{other}"));
+        }
+    }
+    // It can be read once, so one side would be empty.
+    let standard = |input: &OsString| input == "-";
+    if parsed.against.iter().any(standard) && parsed.operands.iter().any(standard) {
+        return Err("standard input is named on both sides".into());
+    }
+    Ok(())
 }
 
 impl Row {

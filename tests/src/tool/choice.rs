@@ -11,10 +11,14 @@ use crate::known;
 type Prints = fn(&Fish, &Fish) -> String;
 
 /// The commands that compare two fish, each up to its operands.
-const COMMANDS: [(&[&str], Prints); 2] = [
+const COMMANDS: [(&[&str], Prints); 3] = [
     (&["compare", "-m", "1"], |first, second| {
         Compared::new(first, second, 1).listing()
     }),
+    (
+        &["compare", "-m", "1", "--at-least", "500", "--json"],
+        |first, second| Compared::new(first, second, 1).verdict_json(500),
+    ),
     (&["cover"], |first, second| {
         Covers::new(first, second).table()
     }),

@@ -11,6 +11,7 @@ use crate::pairs::any_pair;
 use crate::random::Random;
 use crate::reference::MINIMUM;
 use crate::samples::ids;
+use std::fmt::Arguments;
 
 /// So many fish that have stretches in common; some have the same number, some no words.
 pub fn related_fish(random: &mut Random, count: usize) -> Vec<Fish> {
@@ -60,48 +61,39 @@ fn sources(tool: &Tool, all: &[Fish]) -> Vec<(Vec<&'static str>, Vec<u8>)> {
 /// Tables and lists, from every kind of source, by several threads.
 fn forms(g: &mut Group, tool: &Tool, all: &[Fish], minimum: u32) {
     let matrix = Matrix::new(all, minimum);
-    let (table, list) = (matrix.table(), matrix.whole_list());
     let case = format_args!("{} fish, minimum {minimum}", all.len());
     let minimum = minimum.to_string();
-    let forms = [(&[][..], &table), (&["--pairs"], &list)];
+    let layouts = matrix.layouts();
     for (paths, input) in sources(tool, all) {
-        for (option, expected) in forms {
-            let args = [&["matrix", "-m", &minimum], option, &paths].concat();
-            tool.expect(g, case, &args, &input, &Expected::prints(&expected[..]));
+        for (option, made) in &layouts {
+            let args = [&["matrix", "-m", &minimum], *option, &paths].concat();
+            tool.expect(g, case, &args, &input, &Expected::prints(&made[..]));
         }
     }
     for threads in ["1", "2", "5"] {
-        for (option, expected) in forms {
-            let args = [
-                &["matrix", "--threads", threads, "-m", &minimum, "all"],
-                option,
-            ]
-            .concat();
-            tool.expect(g, case, &args, b"", &Expected::prints(&expected[..]));
-            tool.expect_written(g, case, &args, b"", expected.as_bytes());
+        for (option, made) in &layouts {
+            let args = ["matrix", "--threads", threads, "-m", &minimum, "all"];
+            let args = [&args[..], option].concat();
+            tool.expect(g, case, &args, b"", &Expected::prints(&made[..]));
+            tool.expect_written(g, case, &args, b"", made.as_bytes());
         }
     }
     // With --keep-going nothing changes where nothing is bad.
     for option in ["-k", "--keep-going"] {
         let args = ["matrix", "-m", &minimum, "folder", option];
-        tool.expect(g, case, &args, b"", &Expected::prints(&table[..]));
+        tool.expect(g, case, &args, b"", &Expected::prints(matrix.table()));
     }
 }
 
-/// The parts of the list, each as it must be, and one after another the whole.
-fn parts(g: &mut Group, tool: &Tool, all: &[Fish], minimum: u32) {
-    let matrix = Matrix::new(all, minimum);
-    tool.put("all", records(all));
-    let pairs = all.len() * all.len().saturating_sub(1) / 2;
-    let minimum = minimum.to_string();
+/// The parts of the list, each as it must be, and one after another the whole. The arguments are the minimum and the
+/// files.
+pub fn parts(g: &mut Group, tool: &Tool, case: Arguments, args: &[&str], matrix: &Matrix) {
+    let pairs = matrix.pairs().count();
     for of in [1, 2, 3, 7, pairs.max(1), pairs + 1, pairs + 5] {
         let mut joined = Vec::new();
         for part in 1..=of {
             let option = format!("{part}/{of}");
-            let args = [
-                "matrix", "--pairs", "-m", &minimum, "--part", &option, "all",
-            ];
-            let case = format_args!("{} fish", all.len());
+            let args = [&["matrix", "--pairs", "--part", &option], args].concat();
             let expected = matrix.part(part, of);
             tool.expect(g, case, &args, b"", &Expected::prints(expected));
             joined.extend(
@@ -110,28 +102,31 @@ fn parts(g: &mut Group, tool: &Tool, all: &[Fish], minimum: u32) {
                     .unwrap_or_default(),
             );
         }
-        let case = format_args!("{} fish, {of} parts joined", all.len());
         let difference = differing(&joined, matrix.whole_list().as_bytes());
-        g.equal(case, difference, None);
+        g.equal(format_args!("{case}, {of} parts joined"), difference, None);
     }
     // Numbers of parts whose products with the pairs have more than 64 bits.
     let (heading, mut lines) = matrix.list();
     let most = u64::MAX;
     for (part, expected) in [(1, heading), (most, lines.pop().unwrap_or_default())] {
         let option = format!("--part={part}/{most}");
-        let args = ["matrix", "--pairs", "-m", &minimum, &option, "all"];
-        let case = format_args!("{} fish, very many parts", all.len());
+        let args = [&["matrix", "--pairs", &option], args].concat();
+        let case = format_args!("{case}, very many parts");
         tool.expect(g, case, &args, b"", &Expected::prints(expected));
     }
 }
 
-/// The example of the description: what the tool must print, letter for letter.
-fn example(g: &mut Group, tool: &Tool) {
+/// The fish of the example of the description.
+pub fn example_fish() -> Vec<Fish> {
     let words = ["caabaad", "baadcaaaabaa", "ab", ""];
-    let all: Vec<Fish> = (12..)
-        .zip(words)
-        .map(|(id, name)| Fish::new(id, &letters(name)))
-        .collect();
+    let fish = (12..).zip(words);
+    fish.map(|(id, name)| Fish::new(id, &letters(name)))
+        .collect()
+}
+
+/// The example: what the tool must print, letter for letter.
+fn example(g: &mut Group, tool: &Tool) {
+    let all = example_fish();
     let case = format_args!("example");
     let heading = "row,column,first_fish,second_fish,tiles,covered,score\n";
     for (count, table, list) in [
@@ -164,7 +159,9 @@ pub fn matrix(g: &mut Group) {
             forms(g, &tool, &all, minimum);
         }
         let all = related_fish(&mut g.random, count);
-        parts(g, &tool, &all, 2);
+        tool.put("all", records(&all));
+        let case = format_args!("{count} fish");
+        parts(g, &tool, case, &["-m", "2", "all"], &Matrix::new(&all, 2));
         // The minimum is refused whatever there is to compare.
         for minimum in ["0", "257", "4294967295"] {
             let line = Line::Is(format!("sigxume: {}", refusal(MINIMUM)));

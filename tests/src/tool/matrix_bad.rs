@@ -11,14 +11,24 @@ use crate::group::Group;
 use crate::random::Random;
 use crate::reference::{MAX_WORDS, MINIMUM};
 use std::fmt::Arguments;
+use std::mem;
 
 /// A file's name in messages, and its bytes; or why there are none, as a line about it must have it.
 pub type File = (String, Result<Vec<u8>, Vec<String>>);
 
-/// What a run over these files must end with: without and with `--keep-going`.
-fn expected(files: &[File], list: bool) -> [Expected; 2] {
-    let (mut good, mut first, mut left_out) = (Vec::new(), None, Vec::new());
-    for (name, file) in files {
+/// What there is in files.
+#[derive(Default)]
+struct Found {
+    good: Vec<Fish>,
+    /// The line about the first thing that is bad, where it ends the run.
+    first: Option<Line>,
+    /// The lines about all that is bad, where it is left out.
+    left_out: Vec<Line>,
+}
+
+impl Found {
+    /// Adds what there is in a file.
+    fn add(&mut self, (name, file): &File) {
         let read = match file {
             Ok(bytes) => either(bytes),
             Err(parts) => {
@@ -27,37 +37,32 @@ fn expected(files: &[File], list: bool) -> [Expected; 2] {
                     parts.push(format!("sigxume: {start}{name}"));
                     Line::Has(parts)
                 };
-                first.get_or_insert(line(""));
-                left_out.push(line("left out: "));
-                continue;
+                self.first.get_or_insert(line(""));
+                self.left_out.push(line("left out: "));
+                return;
             }
         };
         for row in read {
             match row {
-                Ok(fish) => good.push(fish),
+                Ok(fish) => self.good.push(fish),
                 Err(fault) => {
-                    first.get_or_insert(fault.line(name));
-                    left_out.push(fault.line_after("left out: ", name));
+                    self.first.get_or_insert(fault.line(name));
+                    self.left_out.push(fault.line_after("left out: ", name));
                 }
             }
         }
     }
-    let matrix = Matrix::new(&good, 1);
-    let made = if list {
-        matrix.whole_list()
-    } else {
-        matrix.table()
-    };
-    let kept = Expected {
-        status: i32::from(!left_out.is_empty()),
-        stdout: made.into_bytes(),
-        stderr: left_out,
-    };
-    let stopped = match first {
-        Some(line) => Expected::fails(line),
-        None => kept.clone(),
-    };
-    [stopped, kept]
+
+    /// The matrix of the good fish of one side or of both, the first side's files being read first.
+    fn matrix(&mut self, files: &[File], against: Option<&[File]>) -> Matrix {
+        files.iter().for_each(|file| self.add(file));
+        let fish = mem::take(&mut self.good);
+        let Some(against) = against else {
+            return Matrix::new(&fish, 1);
+        };
+        against.iter().for_each(|file| self.add(file));
+        Matrix::sides([&fish, &self.good], 1)
+    }
 }
 
 /// Runs the tool over paths with these files, without and with `--keep-going`.
@@ -69,14 +74,30 @@ pub fn check(
     files: &[File],
     input: &[u8],
 ) {
-    for list in [false, true] {
-        let [stopped, kept] = expected(files, list);
-        let option: &[&str] = if list { &["--pairs"] } else { &[] };
+    check_sides(g, tool, case, paths, (files, None), input);
+}
+
+/// The same where the paths may have another side, which has these files.
+pub fn check_sides(
+    g: &mut Group,
+    tool: &Tool,
+    case: Arguments,
+    paths: &[&str],
+    (files, against): (&[File], Option<&[File]>),
+    input: &[u8],
+) {
+    let mut found = Found::default();
+    let matrix = found.matrix(files, against);
+    for (option, made) in matrix.layouts() {
+        let kept = Expected {
+            status: i32::from(!found.left_out.is_empty()),
+            stdout: made.into_bytes(),
+            stderr: found.left_out.clone(),
+        };
         let args = [&["matrix", "-m", "1"], option, paths].concat();
-        if stopped.status == 1 {
-            tool.expect_failure(g, case, &args, input, &stopped);
-        } else {
-            tool.expect(g, case, &args, input, &stopped);
+        match found.first.clone() {
+            Some(line) => tool.expect_failure(g, case, &args, input, &Expected::fails(line)),
+            None => tool.expect(g, case, &args, input, &kept),
         }
         for option in ["-k", "--keep-going"] {
             let args = [&args[..], &[option]].concat();
@@ -139,6 +160,14 @@ fn random_damage(g: &mut Group, tool: &Tool) {
         let mut listed: Vec<File> = listed.clone();
         listed[0].0 = "standard input".into();
         check(g, tool, case, &paths, &listed, &files[0]);
+        // The last file against the others.
+        let (front, against) = listed.split_at(count - 1);
+        if !front.is_empty() {
+            let (paths, last) = (&paths[..count - 1], paths[count - 1]);
+            let paths = [paths, &["--against", last]].concat();
+            let sides = (front, Some(against));
+            check_sides(g, tool, case, &paths, sides, &files[0]);
+        }
     }
 }
 
@@ -179,6 +208,14 @@ fn made(g: &mut Group, tool: &Tool) {
             file("good", &whole),
         ];
         check(g, tool, case, &["good", "bad", "good"], &files, b"");
+        let [good, bad] = [&files[..1], &files[1..2]];
+        for (paths, sides) in [
+            (["good", "--against", "bad"], (good, Some(bad))),
+            (["bad", "--against", "good"], (bad, Some(good))),
+            (["bad", "--against", "bad"], (bad, Some(bad))),
+        ] {
+            check_sides(g, tool, case, &paths, sides, b"");
+        }
     }
 }
 

@@ -6,6 +6,7 @@ use super::results::{Compared, Matrix};
 use super::Tool;
 use crate::group::Group;
 use crate::pairs::{calls, families};
+use crate::random::Random;
 use crate::reference::{tiling, MAX_WORDS};
 
 const MINIMUM: u32 = 12;
@@ -33,8 +34,7 @@ pub fn large(g: &mut Group) {
     tool.put("all", records(&all));
     tool.put("all.txt", text(&all));
     let minimum = MINIMUM.to_string();
-    let (table, list) = (matrix.table(), matrix.whole_list());
-    for (option, made) in [(&[][..], &table), (&["--pairs"], &list)] {
+    for (option, made) in matrix.layouts() {
         for rest in [
             &["folder"][..],
             &["all.txt"],
@@ -56,6 +56,7 @@ pub fn large(g: &mut Group) {
         tool.expect(g, case, &args, b"", &Expected::prints(matrix.part(part, 5)));
     }
     let args = ["matrix", "-m", &minimum, "all"];
+    let table = matrix.table();
     tool.expect_written(g, format_args!("64 fish"), &args, b"", table.as_bytes());
     others(g, &tool, &all);
     many(g, &tool);
@@ -90,15 +91,18 @@ fn others(g: &mut Group, tool: &Tool, all: &[Fish]) {
     }
 }
 
-/// Very many fish of few words: rows must come in order whichever thread is first.
+/// Very many fish of few words.
+pub fn many_fish(random: &mut Random) -> Vec<Fish> {
+    let fish = |id| {
+        let length = random.pick(&[0, 1, 5, 12]);
+        Fish::new(id, &calls(random, length, 3))
+    };
+    (0..300).map(fish).collect()
+}
+
+/// Rows must come in order whichever thread is first.
 fn many(g: &mut Group, tool: &Tool) {
-    let random = &mut g.random;
-    let all: Vec<Fish> = (0..300)
-        .map(|id| {
-            let length = random.pick(&[0, 1, 5, 12]);
-            Fish::new(id, &calls(random, length, 3))
-        })
-        .collect();
+    let all = many_fish(&mut g.random);
     let matrix = Matrix::new(&all, 1);
     tool.put("many.txt", text(&all));
     for threads in ["1", "2", "9"] {

@@ -41,6 +41,15 @@ pub fn options(g: &mut Group) {
         &["compare", "-m", "2", "--fish", "8,7", "a", "--json"], &["compare", "--json", "-m2", "--fish=8,7", "--", "--json"],
         &["compare", "a", "--json", "--fish=8,7", "--minimum", "2"],
     ]);
+    #[rustfmt::skip]
+    same(g, &tool, &compared.verdict(300), &[
+        &["compare", "-m", "2", "--fish", "8,7", "--at-least", "300", "a"], &["compare", "--at-least=300", "-m2", "--fish=8,7", "a"],
+        &["compare", "a", "--at-least", "0300", "--fish=8,7", "-m2", "-o", "-"],
+    ]);
+    #[rustfmt::skip]
+    same(g, &tool, &compared.verdict_json(0), &[
+        &["compare", "-m2", "--fish=8,7", "a", "--json", "--at-least", "0"], &["compare", "--at-least=0", "--json", "-m2", "--fish=8,7", "--", "-a"],
+    ]);
     let [first, second] = [[1, 0], [2, 3]].map(|[a, b]| Covers::new(&all[a], &all[b]));
     #[rustfmt::skip]
     same(g, &tool, &first.table(), &[
@@ -68,6 +77,22 @@ pub fn options(g: &mut Group) {
     same(g, &tool, &matrix.whole_list(), &[
         &["matrix", "--pairs", "-m", "3", "a"], &["matrix", "-m3", "a", "--pairs", "--part", "1/1"],
         &["matrix", "--part=1/1", "--pairs", "-m3", "a"],
+    ]);
+    #[rustfmt::skip]
+    same(g, &tool, &matrix.whole_ranking(40), &[
+        &["matrix", "--at-least", "40", "-m", "3", "a"], &["matrix", "-m3", "a", "--at-least=40"],
+        &["matrix", "-m3", "--top", "6", "a", "--at-least=40"], &["matrix", "-m3", "--top=6", "--at-least", "040", "--", "-a"],
+        &["matrix", "-m3", "--at-least", "40", "./-", "--threads=2", "-k"],
+    ]);
+    let sides = Matrix::sides([&all, &all], 3);
+    #[rustfmt::skip]
+    same(g, &tool, &sides.table(), &[
+        &["matrix", "-m3", "a", "--against", "a"], &["matrix", "--against=a", "-m3", "a"], &["matrix", "--against", "-a", "-m3", "--", "-a"],
+        &["matrix", "-m3", "a", "--against=./-"], &["matrix", "--against", "--json", "a", "-m3"],
+    ]);
+    #[rustfmt::skip]
+    same(g, &tool, &sides.whole_ranking(0), &[
+        &["matrix", "-m3", "a", "--against", "a", "--at-least", "0"], &["matrix", "--at-least=0", "--against=a", "-m3", "--top=16", "a"],
     ]);
     names(g, &tool, &all);
 }

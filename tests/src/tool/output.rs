@@ -10,16 +10,20 @@ use std::fs::File;
 use std::process::Stdio;
 
 /// Each subcommand with an output.
-const COMMANDS: [&[&str]; 9] = [
+const COMMANDS: [&[&str]; 13] = [
     &["encode", "fish.txt"],
     &["decode", "fish"],
     &["compare", "-m", "1", "fish"],
     &["compare", "-m", "1", "--json", "fish"],
+    &["compare", "-m", "1", "--at-least", "500", "fish"],
+    &["compare", "-m", "1", "--at-least", "500", "--json", "fish"],
     &["plot", "-m", "1", "fish"],
     &["cover", "fish"],
     &["cover", "--json", "fish"],
     &["cover", "--plot", "fish"],
     &["matrix", "-m", "1", "fish"],
+    &["matrix", "-m", "1", "--at-least", "0", "fish"],
+    &["matrix", "-m", "1", "fish.txt", "--against", "fish"],
 ];
 
 /// A closed pipe, a full disk, a folder that is not there, a folder in place of the file.
@@ -92,8 +96,23 @@ fn over_input(g: &mut Group, tool: &Tool) {
             }
         }
     }
-    let matrix = ["matrix", "-m", "1", "folder", "-o", "folder/fish"];
-    refused(g, tool, &matrix, "folder/fish");
+    let name = "folder/fish";
+    for args in [
+        &["matrix", "-m", "1", "folder", "-o", name][..],
+        &[
+            "matrix",
+            "-m",
+            "1",
+            "fish",
+            "--against",
+            "folder",
+            "-o",
+            name,
+        ],
+        &["matrix", "-m", "1", name, "--against", "fish", "-o", name],
+    ] {
+        refused(g, tool, args, name);
+    }
     let unchanged = [tool.get("fish"), tool.get("folder/fish")];
     g.equal(
         format_args!("what is read"),

@@ -85,8 +85,14 @@ pub fn progress(g: &mut Group) {
     }
     let matrix = Matrix::new(&all, 1);
     let (table, list) = (matrix.table(), matrix.whole_list());
+    let reached = matrix.whole_ranking(300);
     tool.put("fish", records(&all));
-    for (option, made) in [("", &table), ("--pairs", &list), ("--threads=1", &table)] {
+    for (option, made) in [
+        ("", &table),
+        ("--pairs", &list),
+        ("--threads=1", &table),
+        ("--at-least=300", &reached),
+    ] {
         for (line, written, printed, bar) in [
             // The bar alone is on the terminal, and nothing is left of it.
             ("fish > out", true, "", true),
@@ -139,12 +145,17 @@ fn many_fish(g: &mut Group) -> (Vec<Fish>, Matrix) {
     (all, matrix)
 }
 
-/// Whenever the bar is drawn, the lines of all that is done are there, and nothing of the next.
+/// Whenever the bar is drawn, the lines of all that is done are there, and nothing of the next; of the list of pairs
+/// that reach a line, whose order is known in the end, the heading alone.
 fn midway(g: &mut Group, tool: &Tool) {
     let (all, matrix) = many_fish(g);
     tool.put("many", records(&all));
     let rows = Vec::from_iter(matrix.pairs().map(|([row, _], _)| row));
-    for (option, made) in [("", matrix.table()), ("--pairs", matrix.whole_list())] {
+    for (option, made) in [
+        ("", matrix.table()),
+        ("--pairs", matrix.whole_list()),
+        ("--at-least=900", matrix.whole_ranking(900)),
+    ] {
         let line = format!("sigxume matrix -m 1 --threads=1 {option} many");
         let bytes = at_terminal(tool, &line).map(|(_, bytes)| bytes);
         let bytes = lossy(&bytes.unwrap_or_default());
@@ -159,8 +170,9 @@ fn midway(g: &mut Group, tool: &Tool) {
             let done = counts.strip_suffix(&format!(" of {} pairs", rows.len()));
             let done = done.map_or(0, |done| done.parse().expect("a count"));
             let lines = match option {
+                "" => rows.get(done).map_or(all.len(), |row| *row) - 1,
                 "--pairs" => done,
-                _ => rows.get(done).map_or(all.len(), |row| *row) - 1,
+                _ => 0,
             };
             let due: String = made.split_inclusive('\n').take(1 + lines).collect();
             wrong = wrong.or(differing(written.as_bytes(), due.as_bytes()));

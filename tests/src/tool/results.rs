@@ -1,8 +1,12 @@
 //! What the tool must print of comparisons: listings, JSON texts, tables.
 
 use super::fish::Fish;
-use crate::reference::{self, covered, score, tiling, Curve, Tile, COVER_WORDS};
+use crate::reference::{
+    self, at_least, covered, score, tiling, workspace_words, Curve, Tile, COVER_WORDS,
+};
 use crate::wise;
+use sigxume::raw::Told;
+use sigxume::Settings;
 
 /// The most words of a sequence that is compared by the literal tiling.
 const LITERAL: usize = 300;
@@ -64,6 +68,46 @@ impl<'a> Compared<'a> {
             tiles.join(","),
             self.covered(),
             self.score()
+        )
+    }
+
+    /// What is told of a threshold that is accepted.
+    pub fn told(&self, threshold: u32) -> Told {
+        let sequences = [self.first, self.second].map(|fish| &fish.words[..]);
+        let [n, m] = self.lengths();
+        let mut workspace = vec![0; workspace_words(n, m)];
+        let settings = Settings::for_minimum(self.minimum);
+        let laid = || &self.tiles[..];
+        let told = at_least(
+            settings,
+            sequences,
+            self.minimum,
+            threshold,
+            laid,
+            &mut workspace,
+        );
+        assert_eq!(told.refusal, 0, "a threshold that is accepted");
+        told
+    }
+
+    /// Whether the score reaches a threshold, and the tiles that this takes.
+    pub fn verdict(&self, threshold: u32) -> String {
+        let told = self.told(threshold);
+        let word = ["NO", "YES"][told.reached as usize];
+        format!("AT LEAST {threshold} {word}\nTILES {}\n", told.tiles)
+    }
+
+    /// The same as JSON, in one line.
+    pub fn verdict_json(&self, threshold: u32) -> String {
+        let told = self.told(threshold);
+        let [a, b] = self.ids();
+        let [n, m] = self.lengths();
+        format!(
+            "{{\"fish\":[{a},{b}],\"minimum\":{},\"lengths\":[{n},{m}],\"threshold\":{threshold},\
+             \"reached\":{},\"tiles\":{}}}\n",
+            self.minimum,
+            ["false", "true"][told.reached as usize],
+            told.tiles
         )
     }
 }
@@ -157,9 +201,12 @@ impl Cell {
     }
 }
 
-/// The numbers of fish and the cells of every two of them, by rows: a fish has none with itself.
+/// The numbers of fish and the cells of their pairs, by rows: of every two fish of one side, a fish having none with
+/// itself; or of each fish of one side with each of the other.
 pub struct Matrix {
     pub ids: Vec<u16>,
+    /// The numbers of the other side, where there is one.
+    pub against: Option<Vec<u16>>,
     pub rows: Vec<Vec<Option<Cell>>>,
 }
 
@@ -180,23 +227,50 @@ impl Matrix {
         };
         Self {
             ids: fish.iter().map(|fish| fish.id).collect(),
+            against: None,
             rows: fish.iter().enumerate().map(row).collect(),
         }
     }
 
-    /// Each pair once, by rows: (1, 2), (1, 3), .., (2, 3), ..; its row and column are counted from 1.
+    /// Of two sides: the rows are the fish of the first, the columns those of the second.
+    pub fn sides([fish, others]: [&[Fish]; 2], minimum: u32) -> Self {
+        let row = |first| {
+            let cell = |second| Some(Cell::of(&Compared::new(first, second, minimum)));
+            others.iter().map(cell).collect()
+        };
+        Self {
+            ids: fish.iter().map(|fish| fish.id).collect(),
+            against: Some(others.iter().map(|fish| fish.id).collect()),
+            rows: fish.iter().map(row).collect(),
+        }
+    }
+
+    /// The numbers of the fish of the columns.
+    fn columns(&self) -> &[u16] {
+        self.against.as_ref().unwrap_or(&self.ids)
+    }
+
+    /// Each pair once, by rows: (1, 2), (1, 3), .., (2, 3), .. of one side, and (1, 1), (1, 2), .., (2, 1), .. of two;
+    /// rows and columns are counted from 1.
     pub fn pairs(&self) -> impl Iterator<Item = ([usize; 2], Cell)> + '_ {
         let rows = (1..).zip(&self.rows);
         rows.flat_map(|(row, cells)| {
-            let later = (1..).zip(cells).skip(row);
+            let passed = if self.against.is_some() { 0 } else { row };
+            let later = (1..).zip(cells).skip(passed);
             later.map(move |(column, cell)| ([row, column], cell.expect("two fish")))
         })
+    }
+
+    /// How a line about a pair begins.
+    fn named(&self, [row, column]: [usize; 2]) -> String {
+        let (first, second) = (self.ids[row - 1], self.columns()[column - 1]);
+        format!("{row},{column},{first},{second}")
     }
 
     /// The table of scores.
     pub fn table(&self) -> String {
         let mut table = String::from("fish");
-        for id in &self.ids {
+        for id in self.columns() {
             table += &format!(",{id}");
         }
         table += "\n";
@@ -212,15 +286,9 @@ impl Matrix {
 
     /// The list of pairs: its heading, and its other lines.
     pub fn list(&self) -> (String, Vec<String>) {
-        let lines = self.pairs().map(|([row, column], cell)| {
-            format!(
-                "{row},{column},{},{},{},{},{}\n",
-                self.ids[row - 1],
-                self.ids[column - 1],
-                cell.tiles,
-                cell.covered,
-                cell.score
-            )
+        let lines = self.pairs().map(|(pair, cell)| {
+            let pair = self.named(pair);
+            format!("{pair},{},{},{}\n", cell.tiles, cell.covered, cell.score)
         });
         (
             "row,column,first_fish,second_fish,tiles,covered,score\n".into(),
@@ -243,5 +311,37 @@ impl Matrix {
             1 => heading + &part,
             _ => part,
         }
+    }
+
+    /// The list of the pairs that score at least so much, the highest score first and equal scores in the order of the
+    /// pairs: its heading, and its other lines.
+    pub fn ranking(&self, threshold: usize) -> (String, Vec<String>) {
+        let mut lines = Vec::new();
+        for score in (threshold..=1_000).rev() {
+            let equal = self.pairs().filter(|(_, cell)| cell.score == score);
+            lines.extend(equal.map(|(pair, cell)| {
+                let pair = self.named(pair);
+                format!("{pair},{},{score}\n", cell.covered)
+            }));
+        }
+        (
+            "row,column,first_fish,second_fish,covered,score\n".into(),
+            lines,
+        )
+    }
+
+    /// That list as a whole.
+    pub fn whole_ranking(&self, threshold: usize) -> String {
+        let (heading, lines) = self.ranking(threshold);
+        heading + &lines.concat()
+    }
+
+    /// The three layouts, each with the options that ask for it.
+    pub fn layouts(&self) -> [(&'static [&'static str], String); 3] {
+        [
+            (&[], self.table()),
+            (&["--pairs"], self.whole_list()),
+            (&["--at-least", "300"], self.whole_ranking(300)),
+        ]
     }
 }

@@ -2,7 +2,7 @@
 
 use super::fish::{records, Fish};
 use super::matrix::related_fish;
-use super::matrix_bad::check;
+use super::matrix_bad::{check, check_sides};
 use super::Tool;
 use crate::group::Group;
 
@@ -51,6 +51,19 @@ pub fn unreadable(g: &mut Group, tool: &Tool) {
         &files,
         b"",
     );
+    for (paths, files, against) in [
+        (["good", "--against", "missing"], &good, &missing),
+        (["missing", "--against", "good"], &missing, &good),
+        (["missing", "--against", "missing"], &missing, &missing),
+    ] {
+        let sides = [files, against].map(std::slice::from_ref);
+        let sides = (sides[0], Some(sides[1]));
+        check_sides(g, tool, format_args!("missing side"), &paths, sides, b"");
+    }
+    let paths = ["good", "--against", "folder"];
+    let sides = (std::slice::from_ref(&good), Some(&folder[..]));
+    let case = format_args!("folder in a folder, against it");
+    check_sides(g, tool, case, &paths, sides, b"");
     let files = [&folder[..], &[missing, good.clone()]].concat();
     let paths = ["folder", "missing", "good"];
     check(

@@ -17,6 +17,7 @@ const OPTIONS: [(&str, &[&str]); 7] = [
             "-m",
             "--minimum",
             "--fish",
+            "--at-least",
             "--json",
             "-o",
             "--output",
@@ -49,6 +50,9 @@ const OPTIONS: [(&str, &[&str]); 7] = [
             "--minimum",
             "--pairs",
             "--part",
+            "--at-least",
+            "--top",
+            "--against",
             "-k",
             "--keep-going",
             "--threads",
@@ -81,6 +85,21 @@ const PARTS: [&str; 14] = [
     "", "/", "1", "1/", "/2", "0/1", "0/0", "1/0", "2/1", "3/2", "x/2", "1/x", "1/2/3", "-1/2",
 ];
 
+/// Bad values of `--at-least`, for `compare` and `matrix` alike; a number above 1,000 is for the core to refuse.
+const THRESHOLDS: [&str; 11] = [
+    "",
+    "x",
+    "-1",
+    "+1",
+    "1.5",
+    "30%",
+    " 300",
+    "300 ",
+    "0x1",
+    "4294967296",
+    "99999999999999999999999",
+];
+
 /// Other arguments, with the subcommand whose help they should hint at.
 #[rustfmt::skip]
 const ROWS: &[(&str, &[&str])] = &[
@@ -103,7 +122,12 @@ const ROWS: &[(&str, &[&str])] = &[
     ("compare", &["compare", "-m", "1", "a", "-o", "x", "--output", "x"]), ("compare", &["compare", "--", "-m", "1"]),
     ("compare", &["compare", "-m", "1", "missing", "missing", "missing"]),
     ("compare", &["compare", "-m", "1", "a", "--all"]), ("compare", &["compare", "-m", "1", "a", "--plot"]),
+    ("compare", &["compare", "-m", "1", "a", "--at-least"]), ("compare", &["compare", "a", "--at-least", "300"]),
+    ("compare", &["compare", "-m", "1", "a", "--at-least", "300", "--at-least=300"]), ("compare", &["compare", "-m", "1", "--at-least", "a"]),
+    ("compare", &["compare", "-m", "1", "a", "--at-least", "300", "--top", "1"]), ("compare", &["compare", "-m", "1", "a", "--top", "1"]),
+    ("compare", &["compare", "-m", "1", "a", "--against", "a"]), ("compare", &["compare", "-m", "1", "--at-least=300", "a", "a", "a"]),
     ("plot", &["plot"]), ("plot", &["plot", "-m", "1"]), ("plot", &["plot", "-m", "1", "a", "a", "a"]),
+    ("plot", &["plot", "-m", "1", "a", "--at-least", "300"]), ("cover", &["cover", "a", "--at-least", "300"]),
     ("plot", &["plot", "-m", "1", "a", "--json"]), ("plot", &["plot", "-m", "1", "a", "--pairs"]),
     ("plot", &["plot", "-m", "1", "a", "--fish"]), ("plot", &["plot", "-m", "1", "a", "-x"]),
     ("plot", &["plot", "-m", "1", "a", "--fish", "1,2", "--fish", "1,2"]),
@@ -127,13 +151,20 @@ const ROWS: &[(&str, &[&str])] = &[
     ("matrix", &["matrix", "-m", "1", "a", "--threads", "1", "--threads=1"]),
     ("matrix", &["matrix", "-m", "1", "a", "--pairs", "--part", "1/2", "--part", "1/2"]),
     ("matrix", &["matrix", "-m", "1", "a", "-o"]),
+    ("matrix", &["matrix", "-m", "1", "a", "--at-least"]), ("matrix", &["matrix", "-m", "1", "--at-least", "a"]),
+    ("matrix", &["matrix", "a", "--at-least", "300"]), ("matrix", &["matrix", "-m", "1", "--at-least", "300"]),
+    ("matrix", &["matrix", "-m", "1", "a", "--at-least", "300", "--at-least", "300"]),
+    ("matrix", &["matrix", "-m", "1", "a", "--at-least", "300", "--json"]), ("matrix", &["matrix", "-m", "1", "a", "--at-least=300", "--top"]),
+    ("matrix", &["matrix", "-m", "1", "a", "--at-least=300", "--top", "1", "--top=1"]), ("matrix", &["matrix", "-m", "1", "a", "--against"]),
+    ("matrix", &["matrix", "-m", "1", "a", "--against", "a", "--against=a"]), ("matrix", &["matrix", "-m", "1", "--against", "a"]),
+    ("matrix", &["matrix", "-m", "1", "a", "--against="]), ("matrix", &["matrix", "-m", "1", "a", "--against", ""]),
     ("codes", &["codes", "-x"]), ("codes", &["codes", "--nonsense"]), ("codes", &["codes", "-m", "1"]), ("codes", &["codes", "--json"]),
     ("codes", &["codes", "-o"]), ("codes", &["codes", "-o", "x", "-o", "x"]), ("codes", &["codes", "a", "a"]), ("codes", &["codes", "-"]),
 ];
 
 /// Arguments that are refused with these words.
 #[rustfmt::skip]
-const MESSAGES: [(&str, &[&str]); 10] = [
+const MESSAGES: [(&str, &[&str]); 20] = [
     ("--all does not go with --json", &["cover", "a", "--all", "--json"]),
     ("--json does not go with --all", &["cover", "--json", "--all", "a"]),
     ("--all does not go with --plot", &["cover", "--all", "a", "--plot"]),
@@ -141,6 +172,16 @@ const MESSAGES: [(&str, &[&str]); 10] = [
     ("--json does not go with --plot", &["cover", "a", "--fish=1,2", "--json", "--plot", "--fish=1,2"]),
     ("--plot does not go with --json", &["cover", "a", "--plot", "--json"]),
     ("--part goes with --pairs only", &["matrix", "-m", "1", "a", "--part", "1/2"]),
+    ("--part goes with --pairs only", &["matrix", "-m", "1", "a", "--at-least", "300", "--part", "1/2"]),
+    ("--part goes with --pairs only", &["matrix", "-m", "1", "a", "--against", "a", "--part", "1/2"]),
+    ("--top goes with --at-least only", &["matrix", "-m", "1", "a", "--top", "1"]),
+    ("--top goes with --at-least only", &["matrix", "-m", "1", "a", "--pairs", "--top", "1"]),
+    ("--pairs does not go with --at-least", &["matrix", "-m", "1", "a", "--pairs", "--at-least", "300"]),
+    ("--at-least does not go with --pairs", &["matrix", "-m", "1", "--at-least=300", "a", "--top=1", "--pairs", "--part=1/2"]),
+    ("--at-least wants a number from 0 to 1000, not 'x'", &["compare", "-m", "1", "a", "--at-least", "x"]),
+    ("--at-least wants a number from 0 to 1000", &["matrix", "-m", "1", "a", "--at-least"]),
+    ("standard input is named on both sides", &["matrix", "-m", "1", "a", "-", "--against", "-"]),
+    ("standard input is named on both sides", &["matrix", "--at-least=0", "--against=-", "-m", "1", "-"]),
     ("--fish is given twice", &["compare", "-m", "1", "a", "--fish", "1,2", "--fish", "3,4"]),
     ("--fish is given twice", &["plot", "-m", "1", "a", "--fish", "1,2", "--fish=3,4"]),
     ("a file is named, but none is taken", &["codes", "a"]),
@@ -204,12 +245,17 @@ fn bad(g: &mut Group, tool: &Tool) {
         );
     }
     for value in ["", "0", "-1", "x", "1.5", "99999999999999999999999"] {
-        refused(
-            g,
-            tool,
-            "matrix",
-            &[&start[..], &["--threads", value]].concat(),
-        );
+        for option in [&["--threads"][..], &["--at-least", "300", "--top"]] {
+            refused(g, tool, "matrix", &[&start, option, &[value]].concat());
+        }
+    }
+    for name in ["compare", "matrix"] {
+        for value in THRESHOLDS {
+            let joined = format!("--at-least={value}");
+            for option in [&["--at-least", value][..], &[&joined]] {
+                refused(g, tool, name, &[&[name, "-m", "1", "a"], option].concat());
+            }
+        }
     }
     // Help about nothing that there is.
     let case = format_args!("help about nothing");
