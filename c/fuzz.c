@@ -1059,7 +1059,7 @@ int main(int argc, char **argv)
         end(folder);
     }
 
-    /* It is the pattern here too: 27 is below 65,000, though not below 11, for which that stands. The number of tiles laid shows it. */
+    /* It is the pattern here too: 27 is below 65,000, though not below 11, for which that stands. The tiles laid show it. */
     static const uint16_t codes[2][7] = {{65000, 27, 30, 52, 13, 101, 118}, {27, 65004, 65006, 65008, 65009, 12, 15}};
     for (size_t i = 0; i < 7; i++) {
         first[i] = SIGXUME_CALL(codes[0][i]);
