@@ -2,7 +2,7 @@
  * A libFuzzer program over sigxume.h: it calls the core with whatever the fuzzer thinks of, and stops where an answer, a buffer or
  * an access is not as the header says. `make fuzz` builds and runs it.
  *
- * An input is a plan of 24 bytes and then words. Every call is made twice, with each slice against an inaccessible page once at its
+ * An input is a plan of 28 bytes and then words. Every call is made twice, with each slice against an inaccessible page once at its
  * end and once at its start, since the archive is not instrumented: what AddressSanitizer cannot see the page stops. Lent buffers
  * hold other words each time, and the answers must be the same.
  */
@@ -28,10 +28,10 @@ static void fail(const char *what, int line)
 }
 
 /* What an input asks for. */
-enum { WORDS, READ, READ_ALL, WRITE, HASHES, COMPARE, PAIR, COVER, KINDS };
+enum { WORDS, READ, READ_ALL, WRITE, HASHES, COMPARE, PAIR, COVER, AT_LEAST, KINDS };
 
 enum {
-    PLAN = 24,
+    PLAN = 28,
     MOST = 5000,          /* words of an input that are looked at */
     LOT = 8 * MOST + 256, /* words of the largest slice, the workspace of a sequence with itself, and its guard */
     GUARD = 16,
@@ -51,17 +51,33 @@ struct plan {
     unsigned room[3];  /* of workspace, tile buffer and buffer: as much as is asked, one short, one more, more */
     size_t cut;        /* where the second sequence begins */
     uint16_t id;
-    uint32_t minimum, multiplier, buckets, start;
+    uint32_t minimum, multiplier, buckets, start, threshold;
 };
 
 /* What the fuzzer is told of the answers: it keeps inputs that show something new. */
-enum { SAW_CAUSES, SAW_REFUSAL, SAW_TILES, SAW_LONGEST, SAW_SCORE, SAW_COVERED, SAW_READ, SAW_ALL, SAW_HASHES, SAW_CURVE, SIGHTS };
+enum {
+    SAW_CAUSES,
+    SAW_REFUSAL,
+    SAW_TILES,
+    SAW_LONGEST,
+    SAW_SCORE,
+    SAW_COVERED,
+    SAW_READ,
+    SAW_ALL,
+    SAW_HASHES,
+    SAW_CURVE,
+    SAW_DECIDED,
+    SIGHTS
+};
 
-__attribute__((section("__libfuzzer_extra_counters"))) static uint8_t counters[SIGHTS * 64 * 32];
+/* Counters for each, so many times 32: each kind of input has up to eight causes of a refusal. */
+enum { ROWS = 8 * KINDS };
+
+__attribute__((section("__libfuzzer_extra_counters"))) static uint8_t counters[SIGHTS * ROWS * 32];
 
 static void saw(size_t what, size_t a, size_t b)
 {
-    counters[(what * 64 + (a < 64 ? a : 63)) * 32 + (b < 32 ? b : 31)] = 1;
+    counters[(what * ROWS + (a < ROWS ? a : ROWS - 1)) * 32 + (b < 32 ? b : 31)] = 1;
 }
 
 static size_t bits(size_t n)
@@ -262,6 +278,21 @@ static uint32_t cover_refusal(
         {6, workspace < 4 * (n + m)},
         {7, tiles < 3 * (n < m ? n : m)},
         {11, cover < 256},
+    };
+    return FIRST_OF(plan, causes);
+}
+
+static uint32_t threshold_refusal(
+    const struct plan *plan, const uint32_t *first, size_t n, const uint32_t *second, size_t m, size_t workspace)
+{
+    struct cause causes[] = {
+        {1, n > 2048 || m > 2048},
+        {2, !sound(first, n) || !sound(second, m)},
+        {3, plan->minimum < 1 || plan->minimum > 256},
+        {4, plan->buckets < 1 || plan->buckets > 1024},
+        {5, plan->start < plan->minimum || plan->start > 2048},
+        {6, workspace < 4 * (n + m)},
+        {12, plan->threshold > 1000},
     };
     return FIRST_OF(plan, causes);
 }
@@ -537,6 +568,14 @@ static void must_be_tiled(
         must_be_the_tiling(first, n, second, m, minimum, tiles, answer.tiles);
 }
 
+/* A workspace after a call that was accepted. */
+static void must_be_zero(struct slice w)
+{
+    for (size_t i = 0; i < w.len; i++)
+        MUST(w.at[i] == 0);
+    must_keep(w, w.len);
+}
+
 /* What is lent for a comparison: both sequences, workspace and tile buffer. */
 struct lent {
     struct slice a, b, w, t;
@@ -564,9 +603,7 @@ static void must_leave(struct lent s, sigxume_compared answer, uint32_t *laid)
         must_keep(s.t, 0);
         return;
     }
-    for (size_t i = 0; i < s.w.len; i++)
-        MUST(s.w.at[i] == 0);
-    must_keep(s.w, s.w.len);
+    must_be_zero(s.w);
     MUST(answer.tiles <= s.t.len / 3);
     must_keep(s.t, 3 * (size_t)answer.tiles);
     if (answer.tiles != 0)
@@ -727,6 +764,95 @@ static void try_cover(const struct plan *plan, const uint32_t *first, size_t n, 
     must_be_exchanged(tiles, other_tiles, answer.tiles);
 }
 
+/* Asks about the plan's threshold with its settings, or with those that serve well. No tile buffer is passed; that of minimum 0 has
+ * nothing in it. */
+static sigxume_told try_threshold(
+    const struct plan *plan, bool well, const uint32_t *first, size_t n, const uint32_t *second, size_t m)
+{
+    struct plan used = well ? served_well(*plan, plan->minimum) : *plan;
+    struct lent s = lend_pair(plan, first, n, second, m, 0);
+    sigxume_told told =
+        well ? sigxume_at_least(s.a.at, s.a.len, s.b.at, s.b.len, used.minimum, used.threshold, s.w.at, s.w.len)
+             : sigxume_at_least_fast(
+                   s.a.at, s.a.len, s.b.at, s.b.len, used.minimum, used.threshold, used.multiplier, used.buckets, used.start,
+                   s.w.at, s.w.len);
+    MUST(told.refusal == threshold_refusal(&used, first, n, second, m, s.w.len));
+    saw(SAW_REFUSAL, plan->kind + (well ? 16 : 0), told.refusal);
+    must_keep(s.a, 0);
+    must_keep(s.b, 0);
+    if (told.refusal == 0) {
+        must_be_zero(s.w);
+    } else {
+        MUST(told.reached == 0 && told.tiles == 0);
+        must_keep(s.w, 0);
+    }
+    return told;
+}
+
+static bool same_told(sigxume_told a, sigxume_told b)
+{
+    return a.refusal == b.refusal && a.reached == b.reached && a.tiles == b.tiles;
+}
+
+/* What is due about the plan's threshold, by all tiles of the pair: they are laid one by one on the words of the pattern until what
+ * they cover scores at least so much, or less even with the free stretches of at least the minimum. */
+static sigxume_told decided(
+    const struct plan *plan, const uint32_t *first, size_t n, const uint32_t *second, size_t m, sigxume_compared compared,
+    const uint32_t *tiles)
+{
+    static bool covered[2048];
+    bool straight = first_is_pattern(first, n, second, m);
+    size_t pattern = straight ? n : m, words = n + m != 0 ? n + m : 1, sum = 0;
+    sigxume_told told = {0, compared.score >= plan->threshold, 0};
+    memset(covered, 0, pattern);
+    for (; told.tiles < compared.tiles; told.tiles++) {
+        size_t free = 0, stretch = 0;
+        for (size_t i = 0; i < pattern; i++) {
+            stretch = covered[i] ? 0 : stretch + 1;
+            /* A stretch counts as soon as it is long enough, and from then on word by word. */
+            free += stretch == plan->minimum ? stretch : stretch > plan->minimum;
+        }
+        if (2000 * sum / words >= plan->threshold || 2000 * (sum + free) / words < plan->threshold)
+            break;
+        sigxume_tile tile = sigxume_tile_at(tiles, told.tiles);
+        memset(covered + (straight ? tile.first : tile.second), 1, tile.length);
+        sum += tile.length;
+    }
+    return told;
+}
+
+static void try_at_least(const struct plan *plan, const uint32_t *first, size_t n, const uint32_t *second, size_t m)
+{
+    static uint32_t tiles[LOT];
+    sigxume_told told = try_threshold(plan, true, first, n, second, m);
+    sigxume_told other = try_threshold(plan, false, first, n, second, m);
+    MUST(other.refusal == told.refusal || other.refusal == 4 || other.refusal == 5);
+    if (told.refusal != 0)
+        return;
+    MUST(other.refusal != 0 || same_told(told, other));
+
+    struct plan asked = served_well(*plan, plan->minimum);
+    memset(asked.room, 0, sizeof asked.room);
+    sigxume_compared compared = try_engine(&asked, side == AFTER || n * m > MEDIUM, first, n, second, m, tiles);
+    MUST(compared.refusal == 0);
+    if (side == AFTER)
+        must_be_tiled(first, n, second, m, plan->minimum, compared, tiles);
+    MUST(same_told(told, decided(plan, first, n, second, m, compared, tiles)));
+    saw(SAW_DECIDED, bits(compared.tiles) * 4 + told.reached * 2 + (told.tiles < compared.tiles), bits(told.tiles));
+
+    /* Exchanging the sides changes nothing. */
+    MUST(same_told(told, try_threshold(plan, true, second, m, first, n)));
+
+    /* Just at the score, above and below. */
+    for (uint32_t above = 0; above < 3; above++) {
+        asked.threshold = compared.score + above - (compared.score != 0);
+        if (asked.threshold <= 1000) {
+            told = try_threshold(&asked, side == AFTER, first, n, second, m);
+            MUST(same_told(told, decided(&asked, first, n, second, m, compared, tiles)));
+        }
+    }
+}
+
 /* The input of the pair program: a minimum, then two records. */
 static void try_pair(const struct plan *plan, const uint32_t *words, size_t len)
 {
@@ -770,6 +896,7 @@ static struct plan plan_of(const uint8_t *bytes)
         .multiplier = word_at(bytes + 12),
         .buckets = word_at(bytes + 16),
         .start = word_at(bytes + 20),
+        .threshold = word_at(bytes + 24),
     };
     if (plan.in_range) {
         plan.minimum = 1 + plan.minimum % 256;
@@ -777,6 +904,7 @@ static struct plan plan_of(const uint8_t *bytes)
         /* A cover is a comparison at minimum 1, whatever the plan's. */
         uint32_t least = plan.kind == COVER ? 1 : plan.minimum;
         plan.start = least + plan.start % (2049 - least);
+        plan.threshold %= 1001;
     }
     return plan;
 }
@@ -816,6 +944,8 @@ static void try_plan(const struct plan *plan, const uint32_t *words, size_t len)
         size_t m = plan->itself || plan->halves ? cut : len - cut;
         if (plan->kind == COVER)
             try_cover(plan, words, cut, second, m);
+        else if (plan->kind == AT_LEAST)
+            try_at_least(plan, words, cut, second, m);
         else
             try_compare(plan, words, cut, second, m);
     }
@@ -864,6 +994,12 @@ static void begin(unsigned kind, uint32_t minimum, uint32_t multiplier, uint32_t
     filled = PLAN;
 }
 
+static void begin_at_least(uint32_t minimum, uint32_t threshold)
+{
+    begin(AT_LEAST, minimum, 257, 256, minimum > 20 ? minimum : 20);
+    put_word(input + 24, threshold);
+}
+
 static void add(const uint32_t *words, size_t len)
 {
     MUST(filled + 4 * len <= sizeof input);
@@ -903,6 +1039,7 @@ int main(int argc, char **argv)
 {
     static const size_t sizes[] = {0, 1, 2, 7, 8, 9, 64, 300, 2047, 2048};
     static const uint32_t minimums[] = {1, 2, 20, 256};
+    static const uint32_t thresholds[] = {0, 300, 900, 1000};
     static uint32_t first[SIGXUME_MAX_WORDS], second[SIGXUME_MAX_WORDS];
     MUST(argc == 2);
     const char *folder = argv[1];
@@ -913,11 +1050,24 @@ int main(int argc, char **argv)
 
     /* The second sequence is the pattern, as a call is smaller than a no-call, and the tiles show it. */
     uint32_t a = SIGXUME_CALL(1), b = SIGXUME_CALL(2), none = SIGXUME_NO_CALL;
-    for (int cover = 0; cover < 2; cover++) {
-        begin(cover ? COVER : COMPARE, 2, 257, 256, 20);
+    for (int kind = 0; kind < 3; kind++) {
+        if (kind == 2)
+            begin_at_least(2, 800);
+        else
+            begin(kind == 1 ? COVER : COMPARE, 2, 257, 256, 20);
         add_pair((uint32_t[]){none, b, b, a, b}, 5, (uint32_t[]){a, b, b, b, none}, 5);
         end(folder);
     }
+
+    /* It is the pattern here too: 27 is below 65,000, though not below 11, for which that stands. The tiles laid show it. */
+    static const uint16_t codes[2][7] = {{65000, 27, 30, 52, 13, 101, 118}, {27, 65004, 65006, 65008, 65009, 12, 15}};
+    for (size_t i = 0; i < 7; i++) {
+        first[i] = SIGXUME_CALL(codes[0][i]);
+        second[i] = SIGXUME_CALL(codes[1][i]);
+    }
+    begin_at_least(2, 1000);
+    add_pair(first, 7, second, 7);
+    end(folder);
 
     /* The second sequence is the first with its two thirds exchanged and a word changed now and then. */
     for (size_t k = 0; k < sizeof sizes / sizeof *sizes; k++) {
@@ -957,6 +1107,11 @@ int main(int argc, char **argv)
             begin(COVER, 8, 257, 256, 20);
             add_pair(first, n, second, m);
             end(folder);
+            for (size_t i = 0; i < sizeof thresholds / sizeof *thresholds; i++) {
+                begin_at_least(minimums[1 + i % 2], thresholds[i]);
+                add_pair(first, n, second, m);
+                end(folder);
+            }
         }
     }
     return 0;
@@ -1016,9 +1171,9 @@ size_t LLVMFuzzerCustomMutator(uint8_t *data, size_t size, size_t max_size, unsi
         return size;
 
     /* Settings at their limits, and buffers that are too short. */
-    static const uint32_t limits[] = {0, 1, 2, 19, 20, 21, 255, 256, 257, 1023, 1024, 1025, 2047, 2048, 2049};
+    static const uint32_t limits[] = {0, 1, 2, 19, 20, 21, 255, 256, 257, 999, 1000, 1001, 1023, 1024, 1025, 2047, 2048, 2049};
     if (below(4) == 0)
-        put_word(data + 8 + 4 * below(4), limits[below(sizeof limits / sizeof *limits)]);
+        put_word(data + 8 + 4 * below(5), limits[below(sizeof limits / sizeof *limits)]);
     if (below(4) == 0)
         data[3] = (uint8_t)below(64);
 
@@ -1031,7 +1186,7 @@ size_t LLVMFuzzerCustomMutator(uint8_t *data, size_t size, size_t max_size, unsi
         repair(bytes, len);
     if (plan.kind == PAIR && len > 0)
         repair(bytes + 4, len - 1);
-    if ((plan.kind == COMPARE || plan.kind == COVER) && len > 0 && below(2) == 0) {
+    if ((plan.kind == COMPARE || plan.kind == COVER || plan.kind == AT_LEAST) && len > 0 && below(2) == 0) {
         /* A block of one place at another too, so that there is something to lay; or the second half begins as the first does, so
          * that they differ late or nowhere. */
         bool alike = plan.halves && below(2) == 0;

@@ -40,8 +40,8 @@
  * they differ; so a no-call is greater than every call. Of equal sequences it is the first.
  *
  * So it does not matter which sequence is passed first: exchanging the two exchanges the two starts of each tile and changes nothing
- * else. The order of the tiles, their lengths, their number, covered, score, every word of a cover and what is told of a threshold are
- * the same.
+ * else. The order of the tiles, their lengths, their number, covered, score, every word of a cover and what is told of a threshold
+ * are the same.
  *
  * Rules that hold for every function:
  *
@@ -53,8 +53,8 @@
  * - An answer is a struct whose first number is the refusal's, 0 for none. After a refusal every other number is 0 and everything
  *   lent is as it was. A refusal is given when its cause holds and none that is checked earlier, and at no other time.
  * - Nothing is allocated, no state is kept and errno is not touched, so any thread may call at any time, with buffers of its own.
- * - Every call ends. The fast engine, which also makes a cover and decides about a threshold, takes about 17 KB of stack, everything
- *   else under 1 KB: a thread with 32 KiB can make any call.
+ * - Every call ends. The fast engine, which also makes a cover and decides about a threshold, takes about 17 KB of stack,
+ *   everything else under 1 KB: a thread with 32 KiB can make any call.
  */
 #ifndef SIGXUME_H
 #define SIGXUME_H
@@ -321,11 +321,11 @@ sigxume_compared sigxume_cover_fast(
  * sigxume_compare_fast answers is at least that. The tiles are laid in its order, but no more of them than it takes to decide; they
  * are counted and not kept, so no tile buffer is lent.
  *
- * It is decided after the fewest tiles, 0 included, whose covered words alone score at least threshold, which is a yes; or score less
- * even with every free stretch of the pattern added that has at least minimum words, which is a no. Where neither ever holds, all
- * tiles are laid, and it is a no. A word is free until a tile covers it, so a no-call always is, and ends no stretch. The threshold 0
- * is reached with 0 tiles by any two sequences, two empty ones included. The workspace is that of sigxume_compare_fast, and left as
- * there; of multiplier, buckets and start only the time depends.
+ * It is decided after the fewest tiles, 0 included, whose covered words alone score at least threshold, which is a yes; or score
+ * less even with every free stretch of the pattern added that has at least minimum words, which is a no. Where neither ever holds,
+ * all tiles are laid, and it is a no. A word is free until a tile covers it, so a no-call always is, and ends no stretch. The
+ * threshold 0 is reached with 0 tiles by any two sequences, two empty ones included. The workspace is that of sigxume_compare_fast,
+ * and left as there; of multiplier, buckets and start only the time depends.
  *
  * Refused, in this order: TOO_LONG (1), UNSOUND (2), MINIMUM (3), BUCKETS (4), SEARCH_LENGTH (5), WORKSPACE (6),
  * THRESHOLD (12). The workspace is then as it was.

@@ -8,6 +8,7 @@ pub mod peers;
 pub mod runs;
 pub mod slow;
 pub mod table;
+pub mod threshold;
 pub mod timing;
 
 use crate::pairs::Pair;
@@ -109,6 +110,8 @@ pub struct Job {
     at: usize,
     minimum: u32,
     settings: Settings,
+    /// What is asked about, in the table where something is.
+    threshold: u32,
     workspace: Vec<u32>,
     tiles: Vec<u32>,
     cover: Vec<u32>,
@@ -129,6 +132,7 @@ impl Job {
             at: 0,
             minimum,
             settings,
+            threshold: 0,
             workspace: vec![0; workspace_words(n, m)],
             tiles: vec![0; tile_words(n, m, minimum)],
             cover: vec![0; COVER_WORDS],
@@ -162,10 +166,12 @@ impl Job {
         self.settings == Settings { start, ..own }
     }
 
-    /// Whether a column does the same on another job, which is known by its name.
+    /// Whether a column does the same on another job, which is known by its name. At another threshold the comparison
+    /// is timed anew, in turn with the answer beside it.
     fn is_same(&self, other: &Self, column: &Column) -> bool {
         self.name == other.name
             && self.minimum == other.minimum
+            && self.threshold == other.threshold
             && match column.heeds {
                 Heeds::Nothing => true,
                 Heeds::Start => self.settings.start == other.settings.start,

@@ -79,29 +79,19 @@ impl Problem<'_> {
         self.ask_holding(g, case, settings, threshold, held, refusal);
     }
 
-    /// Asks with these settings, which are accepted, and a workspace that is long enough. A threshold may be
-    /// refused.
-    fn ask_by(&self, g: &mut Group, case: Arguments, settings: Settings, threshold: u32) {
-        let room = workspace(self.pair) + g.random.pick(&[0, 0, 1, 40]);
-        let refusal = due([(threshold > MAX_THRESHOLD, THRESHOLD)]);
-        self.ask_in(g, case, settings, threshold, room, refusal);
-    }
-
     /// Settings that are accepted.
     fn settings(&self, random: &mut Random) -> Settings {
         any_settings(random, self.minimum, pattern_words(self.pair))
     }
 
-    /// Asks with any settings that are accepted.
-    fn ask(&self, g: &mut Group, case: Arguments, threshold: u32) {
-        let settings = self.settings(&mut g.random);
-        self.ask_by(g, case, settings, threshold);
-    }
-
-    /// Asks about thresholds, each with any settings that are accepted.
+    /// Asks about thresholds, which alone may be refused: each with any settings, and with a workspace that is exact
+    /// or longer.
     fn ask_each(&self, g: &mut Group, case: Arguments, thresholds: &[u32]) {
         for &threshold in thresholds {
-            self.ask(g, case, threshold);
+            let settings = self.settings(&mut g.random);
+            let room = workspace(self.pair) + g.random.pick(&[0, 0, 1, 40]);
+            let refusal = due([(threshold > MAX_THRESHOLD, THRESHOLD)]);
+            self.ask_in(g, case, settings, threshold, room, refusal);
         }
     }
 

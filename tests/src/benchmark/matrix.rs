@@ -1,5 +1,5 @@
 //! The tool's matrix beside the comparisons that it makes: what the files, the threads and the
-//! table cost.
+//! table cost; and beside it the list of the pairs that reach a threshold.
 
 use super::{grouped, head, rounded, row, Promises};
 use crate::pairs::families;
@@ -26,6 +26,14 @@ const RUNS: usize = 31;
 /// keep so much of every core busy.
 const MOST_COST: f64 = 1.15;
 const LEAST_CORES: f64 = 0.9;
+
+/// The threshold of the list.
+const THRESHOLD: u32 = 300;
+
+/// The list may take so much longer than the matrix: each answer about a threshold may take 1.15 times a
+/// comparison, and each pair that reaches it, which is one in nine, is then compared as well. To be set once the
+/// proved function is measured.
+const MOST_LIST: f64 = 1.3;
 
 /// The large matrix, the part of it that is made (each part has as many pairs, give or take one), how often
 /// it is timed, and of how many pairs one is compared again.
@@ -102,6 +110,31 @@ fn cells_of(table: &str) -> Cells {
     let rows = table.lines().skip(1).map(|line| line.split(',').skip(1));
     rows.map(|row| row.map(|cell| cell.parse().ok()).collect())
         .collect()
+}
+
+/// The pairs of a table that reach the threshold, with their scores: the highest first, equal ones by row and column.
+fn reaching(cells: &Cells) -> Vec<[usize; 3]> {
+    let mut pairs = Vec::new();
+    for (i, row) in cells.iter().enumerate() {
+        for (j, score) in row.iter().enumerate().skip(i + 1) {
+            let reached = score.filter(|&score| score >= THRESHOLD);
+            pairs.extend(reached.map(|score| [i + 1, j + 1, score as usize]));
+        }
+    }
+    pairs.sort_by_key(|&[_, _, score]| std::cmp::Reverse(score));
+    pairs
+}
+
+/// Row, column and score of each pair of a list.
+fn pairs_of(list: &str) -> Vec<[usize; 3]> {
+    let lines = list.lines().skip(1).map(|line| {
+        let numbers = line.split(',').map_while(|number| number.parse().ok());
+        match Vec::from_iter(numbers)[..] {
+            [i, j, _, _, _, score] => [i, j, score],
+            _ => [0; 3],
+        }
+    });
+    lines.collect()
 }
 
 fn median(mut times: Vec<f64>) -> f64 {
@@ -210,6 +243,8 @@ pub fn compare_matrix(promises: &mut Promises) -> io::Result<()> {
     let counts = [1, cores];
     let mut alone = counts.map(|_| Vec::new());
     let mut tool = counts.map(|_| Vec::new());
+    let mut list = counts.map(|_| Vec::new());
+    let threshold = THRESHOLD.to_string();
     for _ in 0..RUNS {
         for (at, &threads) in counts.iter().enumerate() {
             let (cells, time) = compare_all(&sequences, threads);
@@ -219,6 +254,11 @@ pub fn compare_matrix(promises: &mut Promises) -> io::Result<()> {
                 return Err(io::Error::other("the matrix has other scores"));
             }
             tool[at].push(times);
+            let (pairs, times) = run_tool(&file.0, threads, &["--at-least", &threshold])?;
+            if reaching(&cells) != pairs_of(&pairs) {
+                return Err(io::Error::other("the list has other pairs or scores"));
+            }
+            list[at].push(times.clock);
         }
     }
     let fish = sequences.len();
@@ -226,7 +266,8 @@ pub fn compare_matrix(promises: &mut Promises) -> io::Result<()> {
     println!(
         "\nThe tool's matrix over {fish} records of {MAX_WORDS} words in {} families of {}, {CODES} \
          codes (seed {SEED}), minimum {MINIMUM}: {pairs} comparisons; beside the same comparisons made \
-         in one process that has the sequences. Median of {RUNS} runs, in seconds; {cores} cores.\n",
+         in one process that has the sequences, and beside the list of the pairs that score at least \
+         {THRESHOLD}. Median of {RUNS} runs, in seconds; {cores} cores.\n",
         FAMILIES[0], FAMILIES[1]
     );
     let titles = [
@@ -236,6 +277,8 @@ pub fn compare_matrix(promises: &mut Promises) -> io::Result<()> {
         "matrix / alone",
         "processor time",
         "cores busy",
+        &format!("`--at-least {THRESHOLD}`"),
+        "list / matrix",
     ];
     head(&titles.map(String::from));
     for (at, &threads) in counts.iter().enumerate() {
@@ -243,6 +286,8 @@ pub fn compare_matrix(promises: &mut Promises) -> io::Result<()> {
         let processors = median(tool[at].iter().map(|it| it.processors).collect());
         let comparisons = median(alone[at].clone());
         let (cost, busy) = (rounded(clock / comparisons), rounded(processors / clock));
+        let listed = median(list[at].clone());
+        let more = rounded(listed / clock);
         row(&[
             threads.to_string(),
             format!("{comparisons:.3}"),
@@ -250,6 +295,8 @@ pub fn compare_matrix(promises: &mut Promises) -> io::Result<()> {
             format!("{cost:.2}"),
             format!("{processors:.3}"),
             format!("{busy:.2}"),
+            format!("{listed:.3}"),
+            format!("{more:.2}"),
         ]);
         promises.note(
             format!(
@@ -264,6 +311,13 @@ pub fn compare_matrix(promises: &mut Promises) -> io::Result<()> {
                 "matrix, threads {threads}: cores busy at least {least:.1}, measured {busy:.2}"
             ),
             busy >= least,
+        );
+        promises.note(
+            format!(
+                "matrix, threads {threads}: list of the pairs that reach {THRESHOLD} / matrix at most \
+                 {MOST_LIST}, measured {more:.2}"
+            ),
+            more <= MOST_LIST,
         );
     }
     Ok(())

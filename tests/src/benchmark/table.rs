@@ -126,8 +126,11 @@ pub enum About {
     Start,
     Multiplier,
     Buckets,
+    Threshold,
     Tiles,
     Covered,
+    Laid,
+    Reached,
 }
 
 impl About {
@@ -137,8 +140,11 @@ impl About {
             Self::Start => "First search length",
             Self::Multiplier => "Multiplier",
             Self::Buckets => "Buckets",
+            Self::Threshold => "Threshold",
             Self::Tiles => "Tiles",
             Self::Covered => "Covered",
+            Self::Laid => "Tiles laid",
+            Self::Reached => "Reached",
         }
     }
 
@@ -149,7 +155,8 @@ impl About {
             Self::Start => Some(job.settings.start),
             Self::Multiplier => Some(job.settings.multiplier),
             Self::Buckets => Some(job.settings.buckets),
-            Self::Tiles | Self::Covered => None,
+            Self::Threshold => Some(job.threshold),
+            Self::Tiles | Self::Covered | Self::Laid | Self::Reached => None,
         }
     }
 }
@@ -327,17 +334,22 @@ impl Table {
         label
     }
 
-    /// The cells of a job before its times; tiles and covered are those of its first pair.
+    /// The cells of a job before its times; tiles, covered and what is asked are those of its first pair.
     fn about(&self, job: &mut Job) -> Vec<String> {
         job.at = 0;
         let answer = job.run(self.columns[0]);
         let mut cells = vec![job.name.clone()];
         for about in self.about {
-            let number = about.setting(job).unwrap_or(match about {
+            let number = about.setting(job).unwrap_or_else(|| match about {
                 About::Tiles => answer.tiles,
+                About::Laid => job.ask().tiles,
+                About::Reached => job.ask().reached,
                 _ => answer.covered,
             });
-            cells.push(grouped(number.into()));
+            cells.push(match about {
+                About::Reached => ["no", "yes"][number as usize].to_string(),
+                _ => grouped(number.into()),
+            });
         }
         cells
     }

@@ -189,7 +189,7 @@ fn paper(wanted: impl Fn(&series::Row) -> bool) -> Vec<Job> {
 }
 
 /// The pairs of the first table.
-fn ordinary() -> Vec<Job> {
+pub fn ordinary() -> Vec<Job> {
     let mut all = Vec::new();
     for job in jobs() {
         let pairs = job.pairs.clone();
