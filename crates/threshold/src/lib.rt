@@ -11,6 +11,7 @@ ghost use Rattle.threshold.specs.Promise.{thresholdRefusal, toldAnswer, 
 ghost use Rattle.threshold.specs.Words.{wordsFor, goalFor};
 
 // The answer: a refusal's number and zeros, or 0, whether the threshold is reached, 1 or 0, and the tiles laid.
+#[repr(C)]
 pub struct Told {
     pub refusal: u32,
     pub reached: u32,
