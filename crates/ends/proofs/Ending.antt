@@ -22,12 +22,12 @@ use Rattle.tiling.proofs.Tiling.{tiling-greedy}
 use Rattle.tiling.proofs.Replaced.{tiling-replaced, fillable-replaced}
 use Rattle.tiling.proofs.Until.{until-stops, until-replaced, until-map}
 use Rattle.tile.specs.Listed.{listed}
-use Rattle.sweep.specs.Workspace.{state}
+use Rattle.bounds.specs.Workspace.{state}
 use Rattle.sweep.specs.Goal.{stopsAt, atGoal, stopped, untilGoal}
-use Rattle.sweep.specs.Settled.{settle-by}
+use Rattle.sweep.specs.Settled.{pick}
 use Rattle.sweep.specs.Progress.{Fits, far, Laid, Finished}
-use Rattle.sweep.specs.declared.Goal.{Goal}
-use Rattle.sweep.specs.declared.Job.{Job}
+use Rattle.bounds.specs.declared.Goal.{Goal}
+use Rattle.bounds.specs.declared.Job.{Job}
 use Rattle.sweep.specs.declared.Totals.{Totals}
 use Rattle.sweep.proofs.Step.{goal-is}
 use Rattle.ends.specs.Ends.{Opened, noTiles}
@@ -57,7 +57,7 @@ unfolding stopped
 replaced-stop goal minimum n ws = ap (λ x. stopsAt goal n x) (fillable-replaced minimum ws)
 
 -- ---- nothing laid
-held-none : (t : Bool) (b : List ℕ) → b ≡ settle-by t b b
+held-none : (t : Bool) (b : List ℕ) → b ≡ pick t b b
 held-none true b = refl
 held-none false b = refl
 
@@ -156,12 +156,12 @@ module _ (first second : List ℕ) (minimum : ℕ) (goal : Goal) (ws b : List �
     ran : Ran first second minimum goal b b' k
     ran =
         let entries = first-listed in
-        let held : b' ≡ settle-by (goal .listed) (onto (tileWords (map (listed (j .straight)) (laid-here .tiles))) b) b =
-        laid-here .held ∙ ap (λ g. settle-by (g .listed) (onto (tileWords (map (listed (j .straight)) (laid-here .tiles))) b) b) goal-of in
+        let held : b' ≡ pick (goal .listed) (onto (tileWords (map (listed (j .straight)) (laid-here .tiles))) b) b =
+        laid-here .held ∙ ap (λ g. pick (g .listed) (onto (tileWords (map (listed (j .straight)) (laid-here .tiles))) b) b) goal-of in
         record {
           laid =
               record {
-                held = held ∙ ap (λ es. settle-by (goal .listed) (onto (tileWords es) b) b) (sym entries);
+                held = held ∙ ap (λ es. pick (goal .listed) (onto (tileWords es) b) b) (sym entries);
                 counted = rw entries (laid-here .counted ∙ sym (length-map (laid-here .tiles) (listed (j .straight))));
                 summed = rw entries (laid-here .summed);
               };

@@ -22,11 +22,11 @@ use Rattle.tiling.proofs.Tally.{tally-length}
 use Rattle.tiling.proofs.Choice.{first-shorter, second-shorter}
 use Rattle.tiling.proofs.Replaced.{current-start, fillable-replaced}
 use Rattle.tile.specs.Listed.{listed}
-use Rattle.sweep.specs.Workspace.{state}
+use Rattle.bounds.specs.Workspace.{state}
 use Rattle.stretch.proofs.Fillable.{fillable-all}
 use Rattle.sweep.specs.Progress.{Fits}
-use Rattle.sweep.specs.declared.Goal.{Goal}
-use Rattle.sweep.specs.declared.Job.{Job}
+use Rattle.bounds.specs.declared.Goal.{Goal}
+use Rattle.bounds.specs.declared.Job.{Job}
 use Rattle.ends.specs.Ends.{Opened, noTiles}
 use Rattle.ends.specs.Result.{Room}
 

@@ -10,8 +10,8 @@ use Rattle.tiling.specs.Choice.{firstIsPattern, patternOf, textOf}
 use Rattle.tiling.specs.Stretch.{ifLong}
 use Rattle.tiling.specs.Listing.{score}
 use Rattle.tiling.specs.declared.Compared.{Compared}
-use Rattle.sweep.specs.declared.Goal.{Goal}
-use Rattle.sweep.specs.declared.Job.{Job}
+use Rattle.bounds.specs.declared.Goal.{Goal}
+use Rattle.bounds.specs.declared.Job.{Job}
 use Rattle.sweep.specs.declared.Totals.{Totals}
 
 -- The goal of a whole comparison. None covers more than 2,048 words, so that it is never reached.

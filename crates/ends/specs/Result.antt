@@ -8,8 +8,8 @@ use Rattle.buffer.specs.Buffer.{onto}
 use Rattle.tiling.specs.Listing.{Entry, listing, tileWords, covered}
 use Rattle.tiling.specs.Until.{firstListed}
 use Rattle.sweep.specs.Goal.{stopsAt, stopped}
-use Rattle.sweep.specs.Settled.{settle-by}
-use Rattle.sweep.specs.declared.Goal.{Goal}
+use Rattle.sweep.specs.Settled.{pick}
+use Rattle.bounds.specs.declared.Goal.{Goal}
 use Rattle.sweep.specs.declared.Totals.{Totals}
 
 -- Room for a comparison with a goal: a workspace, and a tile buffer where tiles are listed. Of all buffers only the lengths count.
@@ -19,7 +19,7 @@ pub record Room (first second minimum : ℕ) (goal : Goal) (workspace tiles : �
 
 -- The tiles are counted and, where tiles are listed, listed from the start of the buffer on.
 pub record Listed (lists : Bool) (tiles : List Entry) (b b' : List ℕ) (k : Totals) : Type 0 where
-  pub held : b' ≡ settle-by lists (onto (tileWords tiles) b) b
+  pub held : b' ≡ pick lists (onto (tileWords tiles) b) b
   pub counted : k .count ≡ length tiles
   pub summed : k .covered ≡ covered tiles
 

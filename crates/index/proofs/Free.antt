@@ -15,9 +15,9 @@ use Rattle.tiling.specs.Run.{run}
 use Rattle.tiling.specs.Tiling.{State, runAt}
 use Rattle.tiling.proofs.Leading.{leading-cons, leading-none}
 use Rattle.tiling.proofs.Run.{run-match, run-least, run-within}
-use Rattle.sweep.specs.Workspace.{Space, state}
-use Rattle.sweep.specs.declared.Job.{Job}
-use Rattle.sweep.proofs.Workspace.{text-length}
+use Rattle.bounds.specs.Workspace.{Space, state}
+use Rattle.bounds.specs.declared.Job.{Job}
+use Rattle.bounds.proofs.Workspace.{text-length}
 use Rattle.index.specs.Built.{freeAt}
 
 run-free : (ps ts : List ℕ) → run ps ts ≤ run ts ts

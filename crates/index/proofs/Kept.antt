@@ -11,9 +11,9 @@ use Rattle.tiling.specs.Run.{mark}
 use Rattle.tiling.specs.Tiling.{State, runAt}
 use Rattle.tiling.proofs.Run.{run-within, mark-before, mark-after}
 use Rattle.tiling.proofs.Marked.{lay-shrinks}
-use Rattle.sweep.specs.Workspace.{state, boundsFrom, laid}
-use Rattle.sweep.specs.declared.Job.{Job}
-use Rattle.sweep.proofs.Workspace.{state-set, state-laid}
+use Rattle.bounds.specs.Workspace.{state, boundsFrom, laid}
+use Rattle.bounds.specs.declared.Job.{Job}
+use Rattle.bounds.proofs.Workspace.{state-set, state-laid}
 use Rattle.index.specs.Indexed.{patternHash, textHash, link, Ranges, Indexed, Filtered}
 use Rattle.index.specs.declared.Pass.{Pass}
 

@@ -14,9 +14,9 @@ use Rattle.symbol.proofs.Word.{and-right}
 use lib.ListN.{length, getD, set, replicate, getD-replicate, List·getD-eq-default}
 use lib.Seq.{getD-set-same, getD-set-other}
 use Rattle.window.specs.Hash.{bucket}
-use Rattle.sweep.specs.Workspace.{Space, state, boundsFrom}
-use Rattle.sweep.specs.declared.Job.{Job}
-use Rattle.sweep.proofs.Workspace.{state-set, space-kept}
+use Rattle.bounds.specs.Workspace.{Space, state, boundsFrom}
+use Rattle.bounds.specs.declared.Job.{Job}
+use Rattle.bounds.proofs.Workspace.{state-set, space-kept}
 use Rattle.index.specs.Indexed.{patternHash, textHash, link, slot, Ranges}
 use Rattle.index.specs.Built.{freeAt, raisedFrom, listed, inBucket, nextIn, linkedFrom, entryOf, Raised, takes, Entered, Linked}
 use Rattle.index.specs.declared.Pass.{Pass}

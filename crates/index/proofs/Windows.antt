@@ -19,9 +19,9 @@ use Rattle.tiling.proofs.Run.{run-within, run-words}
 use Rattle.window.specs.Hash.{wordsHash, bucket}
 use Rattle.window.specs.HashList.{hashesBy, hashAt}
 use Rattle.window.proofs.HashList.{length-hashes, getD-hashes, hash-current}
-use Rattle.sweep.specs.Workspace.{Space, state}
-use Rattle.sweep.specs.declared.Job.{Job}
-use Rattle.sweep.proofs.Workspace.{space-kept, pattern-length, text-length}
+use Rattle.bounds.specs.Workspace.{Space, state}
+use Rattle.bounds.specs.declared.Job.{Job}
+use Rattle.bounds.proofs.Workspace.{space-kept, pattern-length, text-length}
 use Rattle.index.specs.Indexed.{patternHash, textHash, link, slot, Ranges, Indexed, Filtered}
 use Rattle.index.specs.Built.{freeAt, raisedFrom, listed, inBucket, nextIn, linkedFrom, entryOf, Linked, Built}
 use Rattle.index.specs.declared.Pass.{Pass}

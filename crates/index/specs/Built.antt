@@ -8,8 +8,8 @@ use lib.ListN.{drop, getD, set}
 use Rattle.tiling.specs.Run.{run}
 use Rattle.window.specs.Hash.{bucket}
 use Rattle.window.specs.HashList.{hashAt}
-use Rattle.sweep.specs.Workspace.{Space, state, boundsFrom}
-use Rattle.sweep.specs.declared.Job.{Job}
+use Rattle.bounds.specs.Workspace.{Space, state, boundsFrom}
+use Rattle.bounds.specs.declared.Job.{Job}
 use Rattle.index.specs.Indexed.{patternHash, textHash, link, slot, Indexed, Filtered}
 use Rattle.index.specs.declared.Pass.{Pass}
 

@@ -6,8 +6,8 @@ use mathlib.Core.List.{List}
 use lib.ListN.{getD}
 use Rattle.tiling.specs.Tiling.{runAt}
 use Rattle.window.specs.Hash.{bucket}
-use Rattle.sweep.specs.Workspace.{state, boundsFrom}
-use Rattle.sweep.specs.declared.Job.{Job}
+use Rattle.bounds.specs.Workspace.{state, boundsFrom}
+use Rattle.bounds.specs.declared.Job.{Job}
 use Rattle.index.specs.declared.Pass.{Pass}
 
 -- What the checks leave of a pass's numbers.

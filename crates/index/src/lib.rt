@@ -1,13 +1,13 @@
 // The index of a pass: the hash of each window, and for each bucket the positions of the text whose windows fall into it, in
 // rising order. Only windows of the text are linked whose hash the pattern may have.
-use sweep::Job;
+use bounds::Job;
 use tile::PatternAt;
 use tile::TextAt;
 ghost use mathlib.Core.Path.{_≡_};
 ghost use Prim.Native.Nat.{_+_, _≤_, _<_};
 ghost use lib.ListN.{length, getD, set, replicate};
 ghost use Rattle.window.specs.Hash.{bucket};
-ghost use Rattle.sweep.specs.Workspace.{Space, boundsFrom};
+ghost use Rattle.bounds.specs.Workspace.{Space, boundsFrom};
 ghost use Rattle.index.specs.Indexed.{patternHash, textHash, link, slot, place, Ranges};
 ghost use Rattle.index.specs.Built.{freeAt, Raised, Entered, Linked, Built};
 
@@ -65,7 +65,7 @@ pub fn next_text(ws: &[u32], job: Job, t: TextAt) -> TextAt
     ensures { λ r. ⌜ r .0 ≡ link job (now (ws .entry)) (t .0) ⌝ }
 {
     let at = 2 * (job.n + job.m) + job.n + t.0;
-    TextAt(sweep::wide(ws[at]))
+    TextAt(bounds::wide(ws[at]))
 }
 
 // The first position of the text in a bucket; where there is none, 2,048, which is past every text.
@@ -73,7 +73,7 @@ pub fn first_text(heads: &[u32; 1024], bucket: usize) -> TextAt
     requires { ⌜ bucket < 1024 ⌝ }
     ensures { λ r. ⌜ r .0 ≡ getD (now (heads .entry)) bucket 0 ⌝ }
 {
-    TextAt(sweep::wide(heads[bucket]))
+    TextAt(bounds::wide(heads[bucket]))
 }
 
 // The entry of the filter for a hash: 0 where the pattern has no window with that entry, 1 where it has one, and 2 where a

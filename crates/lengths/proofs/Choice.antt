@@ -11,9 +11,9 @@ use mathlib.Core.List.{List}
 use borrow.Author.Tests.{lt-ltb, le-ltb, le-leb, lt-leb, leb-true, ltb-true}
 use lib.Dec.{ltb, leb, eqb}
 use lib.ListN.{length, take, drop}
-use Rattle.sweep.specs.Workspace.{Space, state}
-use Rattle.sweep.specs.declared.Job.{Job}
-use Rattle.sweep.proofs.Workspace.{pattern-length}
+use Rattle.bounds.specs.Workspace.{Space, state}
+use Rattle.bounds.specs.declared.Job.{Job}
+use Rattle.bounds.proofs.Workspace.{pattern-length}
 use Rattle.lengths.specs.Lengths.{different, worthwhile, shortLength, climbed, triedFirst, longerLength, atOnce, enough, firstLength, longest, left, partOf}
 use Rattle.lengths.proofs.Samples.{different-fits}
 

@@ -8,7 +8,7 @@ ghost use lib.Dec.{eqb};
 ghost use lib.ListN.{length, replicate};
 ghost use Rattle.symbol.specs.Word.{isCall};
 ghost use Rattle.tiling.specs.Tally.{one};
-ghost use Rattle.sweep.specs.Workspace.{Space, state};
+ghost use Rattle.bounds.specs.Workspace.{Space, state};
 ghost use Rattle.lengths.specs.Lengths.{Marked, marks, different, worthwhile, shortLength, climbed, longerLength, atOnce, enough, firstLength, longer, longest, left, partOf};
 
 // The larger of two lengths.
@@ -32,7 +32,7 @@ fn mark_windows(words: &[u32], b: u32, s: usize, step: usize, marked: &mut [u32;
         let at = i * step;
         let end = at + s;
         let h = window::hash_of(b, &words[at..end]);
-        sweep::store(marked, index::place_of(h), 1);
+        bounds::store(marked, index::place_of(h), 1);
     }
 }
 

@@ -11,15 +11,15 @@ use borrow.Author.Tests.{eqb-true}
 use lib.Dec.{eqb}
 use lib.ListN.{length, getD, set}
 use Rattle.tiling.specs.Tiling.{runAt}
-use Rattle.sweep.specs.Workspace.{state, boundsFrom, bound, laid}
-use Rattle.sweep.specs.Row.{Greatest}
-use Rattle.sweep.specs.First.{First}
-use Rattle.sweep.specs.Blocks.{Covering}
-use Rattle.sweep.specs.Settled.{settle-by, settledWords}
+use Rattle.bounds.specs.Workspace.{state, boundsFrom, bound, laid}
+use Rattle.bounds.specs.Greatest.{Greatest}
+use Rattle.bounds.specs.First.{First}
+use Rattle.bounds.specs.Blocks.{Covering}
+use Rattle.sweep.specs.Settled.{pick, settledWords}
 use Rattle.sweep.specs.Goal.{atGoal}
 use Rattle.sweep.specs.Progress.{UpperFrom, Onward, Sweeping, Over, Searched, Ready, Finished}
 use Rattle.sweep.specs.declared.Found.{Found}
-use Rattle.sweep.specs.declared.Job.{Job}
+use Rattle.bounds.specs.declared.Job.{Job}
 use Rattle.sweep.specs.declared.Totals.{Totals}
 use Rattle.sweep.proofs.Step.{in-pattern, in-text}
 use Rattle.sweep.proofs.Turn.{Swept, swept-none, swept-row, swept-long, swept-more, Level, level-none, level-sweep, level-more, level-less, level-done, level-goal}
@@ -68,7 +68,7 @@ module _ (x : Pass) (p : ℕ) (heads ws b : List ℕ) (k : Totals) (level : ℕ)
       found t (yes l) = r .most l t
       found t (no l) = omega (arith, most t, l)
 
-  settled : (c : Bool) → eqb (f .len) level ≡ c → Indexed x (settle-by c (laid j p (f .t .0) level ws) (set ws (boundsFrom j + p) (f .len))) heads
+  settled : (c : Bool) → eqb (f .len) level ≡ c → Indexed x (pick c (laid j p (f .t .0) level ws) (set ws (boundsFrom j + p) (f .len))) heads
   settled true e =
       let h = eqb-true (f .len) level e in
       let a = in-pattern j level p ws b k f row-sweeping inside (sym read) row-searched h in

@@ -6,14 +6,14 @@ use tile::PatternAt;
 ghost use mathlib.Core.Path.{_≡_};
 ghost use mathlib.Core.Bool.{false};
 ghost use Prim.Native.Nat.{_+_, _≤_, _<_};
-ghost use Rattle.sweep.specs.Workspace.{bound};
-ghost use Rattle.sweep.specs.Blocks.{Covering};
+ghost use Rattle.bounds.specs.Workspace.{bound};
+ghost use Rattle.bounds.specs.Blocks.{Covering, Falling};
 ghost use Rattle.sweep.specs.Goal.{atGoal};
-ghost use Rattle.sweep.specs.Progress.{Ready, Falling, Sweeping, Over, Onward, Finished};
+ghost use Rattle.sweep.specs.Progress.{Ready, Sweeping, Over, Onward, Finished};
 ghost use Rattle.index.specs.Indexed.{Ranges, Indexed};
 
-// A row that is visited, and what is laid before it.
-struct Stop {
+// A turn of a sweep: the row that is visited, and what is laid before it.
+struct Turn {
     p: PatternAt,
     totals: Totals,
 }
@@ -34,7 +34,7 @@ fn visit(
     ensures { λ r. ⌜ Falling (pass .job) (now (ws .entry)) (now (ws .exit)) ⌝ }
     ensures { λ r. ⌜ Indexed pass (now (ws .exit)) (now (heads .entry)) ⌝ }
 {
-    let level = sweep::bound_of(ws, pass.job, p);
+    let level = bounds::bound_of(ws, pass.job, p);
     let found = rows::find(ws, pass, heads, last, p, level);
     sweep::settle(ws, pass.job, level, p, found, tiles, totals)
 }
@@ -47,18 +47,18 @@ fn step(
     last: &mut [u32; 1024],
     blocks: &mut [u32; 64],
     tiles: &mut [u32],
-    stop: Stop,
+    turn: Turn,
 ) -> Totals
-    requires { ⌜ Sweeping (pass .job) (bound (pass .job) (now ws) (stop .p .0)) (stop .p .0) (now ws) (now tiles) (stop .totals) × (atGoal (pass .job) (stop .totals) ≡ false) × Covering (pass .job) (now ws) (now blocks) × Indexed pass (now ws) (now heads) × Ranges pass × (pass .s ≤ bound (pass .job) (now ws) (stop .p .0)) × (stop .p .0 < pass .job .n) ⌝ }
-    ensures { λ r. ⌜ Sweeping (pass .job) (bound (pass .job) (now (ws .entry)) (stop .p .0)) (stop .p .0 + 1) (now (ws .exit)) (now (tiles .exit)) r ⌝ }
-    ensures { λ r. ⌜ Onward (pass .job) (now (ws .entry)) (now (tiles .entry)) (stop .totals) (now (ws .exit)) (now (tiles .exit)) r ⌝ }
+    requires { ⌜ Sweeping (pass .job) (bound (pass .job) (now ws) (turn .p .0)) (turn .p .0) (now ws) (now tiles) (turn .totals) × (atGoal (pass .job) (turn .totals) ≡ false) × Covering (pass .job) (now ws) (now blocks) × Indexed pass (now ws) (now heads) × Ranges pass × (pass .s ≤ bound (pass .job) (now ws) (turn .p .0)) × (turn .p .0 < pass .job .n) ⌝ }
+    ensures { λ r. ⌜ Sweeping (pass .job) (bound (pass .job) (now (ws .entry)) (turn .p .0)) (turn .p .0 + 1) (now (ws .exit)) (now (tiles .exit)) r ⌝ }
+    ensures { λ r. ⌜ Onward (pass .job) (now (ws .entry)) (now (tiles .entry)) (turn .totals) (now (ws .exit)) (now (tiles .exit)) r ⌝ }
     ensures { λ r. ⌜ Covering (pass .job) (now (ws .exit)) (now (blocks .exit)) ⌝ }
     ensures { λ r. ⌜ Indexed pass (now (ws .exit)) (now (heads .entry)) ⌝ }
 {
-    let level = sweep::bound_of(ws, pass.job, stop.p);
-    let sum = visit(ws, pass, heads, last, stop.p, tiles, stop.totals);
-    let rows = sweep::settled_rows(stop.totals, sum, level);
-    sweep::refresh(ws, pass.job, blocks, stop.p, rows);
+    let level = bounds::bound_of(ws, pass.job, turn.p);
+    let sum = visit(ws, pass, heads, last, turn.p, tiles, turn.totals);
+    let rows = sweep::settled_rows(turn.totals, sum, level);
+    bounds::refresh(ws, pass.job, blocks, turn.p, rows);
     sum
 }
 
@@ -80,11 +80,11 @@ fn sweep_rows(
 {
     let level = round.level;
     let mut sum = round.totals;
-    let mut p = sweep::next_row(ws, pass.job, blocks, level, PatternAt(0));
+    let mut p = bounds::next_row(ws, pass.job, blocks, level, PatternAt(0));
     while p.0 < pass.job.n && !sweep::at_goal(pass.job, sum) {
-        let stop = Stop { p, totals: sum };
-        sum = step(ws, pass, heads, last, blocks, tiles, stop);
-        p = sweep::next_row(ws, pass.job, blocks, level, PatternAt(p.0 + 1));
+        let turn = Turn { p, totals: sum };
+        sum = step(ws, pass, heads, last, blocks, tiles, turn);
+        p = bounds::next_row(ws, pass.job, blocks, level, PatternAt(p.0 + 1));
     }
     sum
 }
@@ -103,11 +103,11 @@ pub fn lay_levels(
     ensures { λ r. ⌜ Finished (pass .job) (pass .s) (now (ws .entry)) (now (tiles .entry)) totals (now (ws .exit)) (now (tiles .exit)) r ⌝ }
 {
     let mut sum = totals;
-    let mut level = sweep::top(blocks);
+    let mut level = bounds::top(blocks);
     while pass.s <= level && !sweep::at_goal(pass.job, sum) {
         let round = Round { level, totals: sum };
         sum = sweep_rows(ws, pass, heads, last, blocks, tiles, round);
-        level = buffer::lesser(level - 1, sweep::top(blocks));
+        level = buffer::lesser(level - 1, bounds::top(blocks));
     }
     sum
 }

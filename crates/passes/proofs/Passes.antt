@@ -10,11 +10,11 @@ use mathlib.Core.List.{List}
 use lib.ListN.{length, drop}
 use Rattle.tiling.specs.Tiling.{best}
 use Rattle.tiling.proofs.Best.{best-is}
-use Rattle.sweep.specs.Workspace.{state}
+use Rattle.bounds.specs.Workspace.{state}
 use Rattle.sweep.specs.Goal.{atGoal}
 use Rattle.sweep.specs.Progress.{Fits, Onward, Ready, Finished}
 use Rattle.sweep.specs.declared.Totals.{Totals}
-use Rattle.sweep.proofs.Workspace.{pattern-length}
+use Rattle.bounds.proofs.Workspace.{pattern-length}
 use Rattle.sweep.proofs.Turn.{at-goal-no, onward-none, onward-more, unmoved-fits, unmoved-finished}
 use Rattle.index.specs.Indexed.{Ranges}
 use Rattle.index.specs.Built.{Built}

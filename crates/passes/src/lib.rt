@@ -8,8 +8,8 @@ ghost use mathlib.Core.Bool.{false};
 ghost use Prim.Native.Nat.{_<_};
 ghost use lib.ListN.{replicate};
 ghost use Rattle.tiling.specs.Tiling.{best};
-ghost use Rattle.sweep.specs.Workspace.{Space, state};
-ghost use Rattle.sweep.specs.Blocks.{Covering};
+ghost use Rattle.bounds.specs.Workspace.{Space, state};
+ghost use Rattle.bounds.specs.Blocks.{Covering};
 ghost use Rattle.sweep.specs.Goal.{atGoal};
 ghost use Rattle.sweep.specs.Progress.{Fits, Finished};
 ghost use Rattle.index.specs.Indexed.{Ranges};
@@ -44,7 +44,7 @@ fn prepare(
 {
     index::build(ws, pass, heads, filter);
     rows::fill_bounds(ws, pass, heads, filter, last);
-    sweep::refresh(ws, pass.job, blocks, PatternAt(0), pass.job.n);
+    bounds::refresh(ws, pass.job, blocks, PatternAt(0), pass.job.n);
 }
 
 // A pass: every tile of at least s words is laid, until the goal.

@@ -13,16 +13,16 @@ use lib.ListN.{length, drop, getD, length-drop}
 use Rattle.symbol.specs.Word.{equalCalls}
 use Rattle.symbol.proofs.Word.{and-left}
 use Rattle.tile.specs.declared.TextAt.{TextAt}
-use Rattle.sweep.specs.Workspace.{Space, state, bound}
+use Rattle.bounds.specs.Workspace.{Space, state, bound}
 use Rattle.sweep.specs.Row.{Row, boundBy, freeWords, before}
 use Rattle.sweep.specs.Progress.{Fits, Searched, UpperFrom, RowBound, Filled, Ready, Finished, Sweeping}
-use Rattle.sweep.specs.declared.Job.{Job}
+use Rattle.bounds.specs.declared.Job.{Job}
 use Rattle.sweep.specs.declared.Found.{Found}
 use Rattle.sweep.specs.declared.Totals.{Totals}
 use Rattle.sweep.proofs.Told.{bound-tells, bound-told, free-tells, telling-both, before-some}
 use Rattle.sweep.proofs.Row.{row-small}
 use Rattle.sweep.proofs.Turn.{unmoved-fits, unmoved-finished}
-use Rattle.sweep.proofs.Workspace.{pattern-length}
+use Rattle.bounds.proofs.Workspace.{pattern-length}
 use Rattle.plain.specs.Bounds.{Capped, goesOn}
 
 -- ---- a run that goes on

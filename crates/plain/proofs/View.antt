@@ -11,11 +11,11 @@ use Rattle.symbol.proofs.Sequence.{current-take, current-drop}
 use Rattle.buffer.proofs.Buffer.{rest-of-front}
 use Rattle.tiling.specs.Run.{run}
 use Rattle.tiling.proofs.Run.{run-within, run-match, run-least}
-use Rattle.sweep.specs.Workspace.{Space, state}
+use Rattle.bounds.specs.Workspace.{Space, state}
 use Rattle.sweep.specs.Row.{Row}
-use Rattle.sweep.specs.declared.Job.{Job}
+use Rattle.bounds.specs.declared.Job.{Job}
 use Rattle.sweep.specs.declared.Found.{Found}
-use Rattle.sweep.proofs.Workspace.{pattern-length}
+use Rattle.bounds.proofs.Workspace.{pattern-length}
 use Rattle.plain.specs.Bounds.{Capped}
 
 -- ---- a run of words that are cut

@@ -7,7 +7,7 @@ use lib.ListN.{getD}
 use Rattle.symbol.specs.Word.{equalCalls}
 use Rattle.tiling.specs.Tiling.{State, runAt}
 use Rattle.sweep.specs.Row.{before}
-use Rattle.sweep.specs.declared.Job.{Job}
+use Rattle.bounds.specs.declared.Job.{Job}
 
 -- No run of the row at p exceeds cap.
 abbrev pub Capped : State → ℕ → ℕ → Type 0

@@ -1,7 +1,7 @@
 // The plain engine: any pair of positions may be looked at, and no hash.
 use sweep::Found;
-use sweep::Goal;
-use sweep::Job;
+use bounds::Goal;
+use bounds::Job;
 use sweep::Round;
 use sweep::Totals;
 use tile::PatternAt;
@@ -13,12 +13,12 @@ ghost use Prim.Native.Nat.{_+_, _-_, _≤_, _<_};
 ghost use lib.ListN.{length, drop};
 ghost use Rattle.symbol.specs.Sequence.{Current};
 ghost use Rattle.tiling.specs.Comparing.{plainRefusal, Comparable};
-ghost use Rattle.sweep.specs.Workspace.{Space, state, bound};
+ghost use Rattle.bounds.specs.Workspace.{Space, state, bound};
 ghost use Rattle.sweep.specs.Row.{Row};
-ghost use Rattle.sweep.specs.First.{First};
-ghost use Rattle.sweep.specs.Blocks.{Covering};
+ghost use Rattle.bounds.specs.First.{First};
+ghost use Rattle.bounds.specs.Blocks.{Covering, Falling};
 ghost use Rattle.sweep.specs.Goal.{atGoal};
-ghost use Rattle.sweep.specs.Progress.{Fits, Searched, UpperFrom, RowBound, Filled, Ready, Falling, Sweeping, Over, Onward, Finished};
+ghost use Rattle.sweep.specs.Progress.{Fits, Searched, UpperFrom, RowBound, Filled, Ready, Sweeping, Over, Onward, Finished};
 ghost use Rattle.ends.specs.Result.{Room, Ran};
 ghost use Rattle.plain.specs.Promise.{Plain};
 ghost use Rattle.plain.specs.Bounds.{Capped, goesOn};
@@ -168,7 +168,7 @@ fn fill_bounds(ws: &mut [u32], job: Job, last: &mut usize)
     while 0 < p {
         p -= 1;
         after = row_bound(ws, job, last, PatternAt(p), after);
-        sweep::set_bound(ws, job, PatternAt(p), after.len);
+        bounds::set_bound(ws, job, PatternAt(p), after.len);
     }
 }
 
@@ -203,7 +203,7 @@ fn visit(
     ensures { λ r. ⌜ Onward job (now (ws .entry)) (now (tiles .entry)) totals (now (ws .exit)) (now (tiles .exit)) r ⌝ }
     ensures { λ r. ⌜ Falling job (now (ws .entry)) (now (ws .exit)) ⌝ }
 {
-    let level = sweep::bound_of(ws, job, p);
+    let level = bounds::bound_of(ws, job, p);
     let found = find(ws, job, last, p, level);
     sweep::settle(ws, job, level, p, found, tiles, totals)
 }
@@ -223,10 +223,10 @@ fn step(
     ensures { λ r. ⌜ Onward job (now (ws .entry)) (now (tiles .entry)) totals (now (ws .exit)) (now (tiles .exit)) r ⌝ }
     ensures { λ r. ⌜ Covering job (now (ws .exit)) (now (blocks .exit)) ⌝ }
 {
-    let level = sweep::bound_of(ws, job, p);
+    let level = bounds::bound_of(ws, job, p);
     let sum = visit(ws, job, last, p, tiles, totals);
     let rows = sweep::settled_rows(totals, sum, level);
-    sweep::refresh(ws, job, blocks, p, rows);
+    bounds::refresh(ws, job, blocks, p, rows);
     sum
 }
 
@@ -246,10 +246,10 @@ fn sweep_rows(
 {
     let level = round.level;
     let mut sum = round.totals;
-    let mut p = sweep::next_row(ws, job, blocks, level, PatternAt(0));
+    let mut p = bounds::next_row(ws, job, blocks, level, PatternAt(0));
     while p.0 < job.n && !sweep::at_goal(job, sum) {
         sum = step(ws, job, last, blocks, p, tiles, sum);
-        p = sweep::next_row(ws, job, blocks, level, PatternAt(p.0 + 1));
+        p = bounds::next_row(ws, job, blocks, level, PatternAt(p.0 + 1));
     }
     sum
 }
@@ -267,11 +267,11 @@ fn lay_all(
     ensures { λ r. ⌜ Finished job (job .minimum) (now (ws .entry)) (now (tiles .entry)) totals (now (ws .exit)) (now (tiles .exit)) r ⌝ }
 {
     let mut sum = totals;
-    let mut level = sweep::top(blocks);
+    let mut level = bounds::top(blocks);
     while job.minimum <= level && !sweep::at_goal(job, sum) {
         let round = Round { level, totals: sum };
         sum = sweep_rows(ws, job, last, blocks, tiles, round);
-        level = buffer::lesser(level - 1, sweep::top(blocks));
+        level = buffer::lesser(level - 1, bounds::top(blocks));
     }
     sum
 }
@@ -283,7 +283,7 @@ fn prepare(ws: &mut [u32], job: Job, last: &mut usize, blocks: &mut [u32; 64])
     ensures { λ r. ⌜ Covering job (now (ws .exit)) (now (blocks .exit)) ⌝ }
 {
     fill_bounds(ws, job, last);
-    sweep::refresh(ws, job, blocks, PatternAt(0), job.n);
+    bounds::refresh(ws, job, blocks, PatternAt(0), job.n);
 }
 
 // Lays every tile of at least the minimum, from the state that the workspace holds, until the goal.

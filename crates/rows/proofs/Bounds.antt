@@ -15,12 +15,12 @@ use Rattle.symbol.proofs.Word.{and-left}
 use Rattle.tiling.specs.Tiling.{State, runAt}
 use Rattle.tiling.proofs.Run.{run-within}
 use Rattle.tile.specs.declared.TextAt.{TextAt}
-use Rattle.sweep.specs.Workspace.{Space, state, boundsFrom}
+use Rattle.bounds.specs.Workspace.{Space, state, boundsFrom}
 use Rattle.sweep.specs.Row.{boundBy, freeWords, before}
 use Rattle.sweep.specs.Progress.{UpperFrom, RowBound}
 use Rattle.sweep.specs.declared.Found.{Found}
-use Rattle.sweep.specs.declared.Job.{Job}
-use Rattle.sweep.proofs.Workspace.{pattern-length}
+use Rattle.bounds.specs.declared.Job.{Job}
+use Rattle.bounds.proofs.Workspace.{pattern-length}
 use Rattle.sweep.proofs.Told.{Telling, telling-none, telling-both, free-tells, bound-tells, bound-told, before-some}
 use Rattle.sweep.proofs.Bounds.{Filling, filling-none, filling-more, filling-all}
 use Rattle.index.specs.Indexed.{Ranges, Indexed, Filtered, patternHash, textHash, slot, place}

@@ -23,12 +23,12 @@ use Rattle.tiling.proofs.Replaced.{run-current}
 use Rattle.tile.specs.declared.TextAt.{TextAt}
 use Rattle.measure.specs.Block.{counted}
 use Rattle.measure.proofs.Longer.{counted-most}
-use Rattle.sweep.specs.Workspace.{Space, state}
+use Rattle.bounds.specs.Workspace.{Space, state}
 use Rattle.sweep.specs.Row.{better, passedOver}
 use Rattle.sweep.specs.declared.Found.{Found}
-use Rattle.sweep.specs.declared.Job.{Job}
+use Rattle.bounds.specs.declared.Job.{Job}
 use Rattle.sweep.proofs.Bounds.{run-further}
-use Rattle.sweep.proofs.Workspace.{pattern-length, text-length}
+use Rattle.bounds.proofs.Workspace.{pattern-length, text-length}
 use Rattle.index.specs.Indexed.{patternHash, textHash}
 use Rattle.index.specs.declared.Pass.{Pass}
 use Rattle.rows.specs.Reached.{Alike, mayBeLonger, afterRun, visited}

@@ -19,12 +19,12 @@ use Rattle.tiling.proofs.Run.{run-within}
 use Rattle.tile.specs.declared.TextAt.{TextAt}
 use Rattle.measure.specs.Block.{counted}
 use Rattle.measure.proofs.Longer.{counted-longer, counted-most}
-use Rattle.sweep.specs.Workspace.{Space, state}
+use Rattle.bounds.specs.Workspace.{Space, state}
 use Rattle.sweep.specs.Row.{better, passedOver}
 use Rattle.sweep.specs.declared.Found.{Found}
 use Rattle.sweep.proofs.Row.{better-new, better-old}
 use Rattle.sweep.proofs.Passed.{passed-shorter}
-use Rattle.sweep.proofs.Workspace.{pattern-length, text-length}
+use Rattle.bounds.proofs.Workspace.{pattern-length, text-length}
 use Rattle.index.specs.Indexed.{Ranges, Indexed, patternHash, link}
 use Rattle.index.specs.declared.Pass.{Pass}
 use Rattle.rows.specs.Reached.{Reached, Within, Begun, mayBeLonger, afterRun, visited}

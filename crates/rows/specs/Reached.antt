@@ -10,11 +10,11 @@ use Rattle.tiling.specs.Run.{run, equalRun}
 use Rattle.tiling.specs.Tiling.{State, runAt}
 use Rattle.tile.specs.declared.TextAt.{TextAt}
 use Rattle.measure.specs.Block.{counted}
-use Rattle.sweep.specs.Workspace.{state}
+use Rattle.bounds.specs.Workspace.{state}
 use Rattle.sweep.specs.Row.{better, boundBy, before, passedOver}
 use Rattle.sweep.specs.Progress.{Filled}
 use Rattle.sweep.specs.declared.Found.{Found}
-use Rattle.sweep.specs.declared.Job.{Job}
+use Rattle.bounds.specs.declared.Job.{Job}
 use Rattle.index.specs.Indexed.{Indexed, patternHash, textHash, place}
 use Rattle.index.specs.declared.Pass.{Pass}
 use Rattle.rows.specs.declared.Walk.{Walk}

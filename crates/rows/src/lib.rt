@@ -2,7 +2,7 @@
 // windows have the same hash, and nowhere else in the fast engine.
 use index::Pass;
 use sweep::Found;
-use sweep::Job;
+use bounds::Job;
 use tile::PatternAt;
 use tile::TextAt;
 ghost use mathlib.Core.Bool.{_&&_};
@@ -12,7 +12,7 @@ ghost use lib.Dec.{eqb, ltb};
 ghost use lib.ListN.{drop, getD, set};
 ghost use Rattle.tiling.specs.Tiling.{runAt};
 ghost use Rattle.measure.specs.Block.{counted};
-ghost use Rattle.sweep.specs.Workspace.{Space, state};
+ghost use Rattle.bounds.specs.Workspace.{Space, state};
 ghost use Rattle.sweep.specs.Progress.{UpperFrom, RowBound};
 ghost use Rattle.index.specs.Indexed.{Ranges, Indexed, Filtered, patternHash, textHash, place};
 ghost use Rattle.index.specs.Built.{when};
@@ -141,7 +141,7 @@ fn last_row(last: &[u32; 1024], at: usize) -> PatternAt
     requires { ⌜ at < 1024 ⌝ }
     ensures { λ r. ⌜ r .0 ≡ getD (now (last .entry)) at 0 ⌝ }
 {
-    PatternAt(sweep::wide(last[at]))
+    PatternAt(bounds::wide(last[at]))
 }
 
 // Remembers a row at the place of its window's hash, where its longest run is shorter than cap.
@@ -325,6 +325,6 @@ pub fn fill_bounds(
     while 0 < p {
         p -= 1;
         after = row_bound(ws, pass, heads, filter, last, PatternAt(p), after);
-        sweep::set_bound(ws, pass.job, PatternAt(p), after.len);
+        bounds::set_bound(ws, pass.job, PatternAt(p), after.len);
     }
 }

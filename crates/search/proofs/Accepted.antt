@@ -10,8 +10,8 @@ use Rattle.tiling.specs.Comparing.{fastRefusal, Comparable, InRange, Roomy}
 use Rattle.tiling.specs.Answer.{Compares}
 use Rattle.tiling.specs.declared.Compared.{Compared}
 use Rattle.tiling.proofs.Comparing.{comparable, fast-roomy, search-in-range}
-use Rattle.sweep.specs.declared.Goal.{Goal}
-use Rattle.sweep.specs.declared.Job.{Job}
+use Rattle.bounds.specs.declared.Goal.{Goal}
+use Rattle.bounds.specs.declared.Job.{Job}
 use Rattle.sweep.specs.declared.Totals.{Totals}
 use Rattle.ends.specs.Ends.{wholeGoal, Opened, Closed}
 use Rattle.ends.specs.Result.{Ran}

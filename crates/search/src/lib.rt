@@ -1,6 +1,6 @@
 // The fast engine, Running Karp-Rabin: its settings, its checks, and its passes between the two ends of a comparison.
 use index::Pass;
-use sweep::Goal;
+use bounds::Goal;
 use sweep::Totals;
 use tiling::Compared;
 ghost use mathlib.Core.Path.{_≡_};

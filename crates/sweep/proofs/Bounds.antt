@@ -14,10 +14,10 @@ use Rattle.symbol.proofs.Retired.{no-match-left}
 use Rattle.tiling.specs.Tiling.{State, runAt}
 use Rattle.tiling.proofs.Run.{run-match, run-least, run-most}
 use Rattle.tiling.proofs.Best.{past-pattern}
-use Rattle.sweep.specs.Workspace.{Space, state, boundsFrom, bound}
+use Rattle.bounds.specs.Workspace.{Space, state, boundsFrom, bound}
 use Rattle.sweep.specs.Progress.{UpperFrom, RowBound, Filled}
-use Rattle.sweep.specs.declared.Job.{Job}
-use Rattle.sweep.proofs.Workspace.{state-set, space-kept, pattern-length}
+use Rattle.bounds.specs.declared.Job.{Job}
+use Rattle.bounds.proofs.Workspace.{state-set, space-kept, pattern-length}
 
 -- From d words on, what is left of a run.
 pub run-further : (s : State) (p t d n : ℕ) → d + n ≤ runAt s p t → n ≤ runAt s (p + d) (t + d)

@@ -10,12 +10,12 @@ use lib.ListN.{length, take, drop}
 use Rattle.tiling.specs.Run.{mark}
 use Rattle.tiling.specs.Stretch.{fillable}
 use Rattle.stretch.specs.Sides.{OnFree}
-use Rattle.sweep.specs.Workspace.{Space, state}
+use Rattle.bounds.specs.Workspace.{Space, state}
 use Rattle.sweep.specs.Goal.{atGoal}
-use Rattle.sweep.specs.Settled.{settle-by, laidTotals}
-use Rattle.sweep.specs.declared.Job.{Job}
+use Rattle.sweep.specs.Settled.{pick, laidTotals}
+use Rattle.bounds.specs.declared.Job.{Job}
 use Rattle.sweep.specs.declared.Totals.{Totals}
-use Rattle.sweep.proofs.Workspace.{pattern-length}
+use Rattle.bounds.proofs.Workspace.{pattern-length}
 
 -- The pattern as a part of the workspace.
 module _ (j : Job) (ws : List ℕ) (p len : ℕ) where
@@ -45,7 +45,7 @@ module _ (j : Job) (ws : List ℕ) (p len : ℕ) (k : Totals) (left : k .fillabl
 pub room-listed : (l : Bool) (n : ℕ) (b : List ℕ) → (l ≡ true → n ≤ length b) → l ≡ true → n ≤ length b
 room-listed l n b h t = h t
 
-pub listed-one : (l : Bool) (b b' new : List ℕ) → l ≡ true → b' ≡ new → b' ≡ settle-by l new b
+pub listed-one : (l : Bool) (b b' new : List ℕ) → l ≡ true → b' ≡ new → b' ≡ pick l new b
 listed-one l b b' new t e = rw t e
 
 -- The test of the goal, as the code asks it.

@@ -1,8 +1,4 @@
-pub mod Workspace
-pub mod Most
 pub mod Row
-pub mod First
-pub mod Blocks
 pub mod Told
 pub mod Passed
 pub mod Bounds

@@ -28,14 +28,15 @@ use Rattle.tile.specs.Listed.{listed}
 use Rattle.stretch.specs.Sides.{OnFree}
 use Rattle.tiling.proofs.Demand.{covered-append}
 use Rattle.tile.proofs.Tail.{length-listed, listed-more}
-use Rattle.sweep.specs.Workspace.{Space, state, boundsFrom, bound, laid}
+use Rattle.bounds.specs.Workspace.{Space, state, boundsFrom, bound, laid}
 use Rattle.sweep.specs.Goal.{stopsAt, atGoal, stopped, untilGoal}
-use Rattle.sweep.specs.Settled.{settle-by, oneMore, laidTotals}
-use Rattle.sweep.specs.Progress.{Fits, far, Laid, Onward, Falling, Bounded, Sweeping, Searched}
-use Rattle.sweep.specs.declared.Job.{Job}
+use Rattle.sweep.specs.Settled.{pick, oneMore, laidTotals}
+use Rattle.sweep.specs.Progress.{Fits, far, Laid, Onward, Bounded, Sweeping, Searched}
+use Rattle.bounds.specs.Blocks.{Falling}
+use Rattle.bounds.specs.declared.Job.{Job}
 use Rattle.sweep.specs.declared.Found.{Found}
 use Rattle.sweep.specs.declared.Totals.{Totals}
-use Rattle.sweep.proofs.Workspace.{state-set, state-laid, space-kept, space-laid, pattern-length, text-length, bound-covered, bound-before, bound-after}
+use Rattle.bounds.proofs.Workspace.{state-set, state-laid, space-kept, space-laid, pattern-length, text-length, bound-covered, bound-before, bound-after}
 
 -- A row whose first word is marked has no run.
 run-zero : (ps ts : List ℕ) → getD ps 0 0 ≡ 0 → run ps ts ≡ 0
@@ -310,7 +311,7 @@ module _ (j : Job) (level p : ℕ) (ws b : List ℕ) (k : Totals) (f : Found) (s
               until-goes onPattern size (stopped (j .goal) (j .minimum)) (far j ws k) next ls (sym (goal-is j ws b k (s .fits)) ∙ going)
               ∙ ap (λ (u : State). next ∷ untilGoal j (record { covered = k .covered + level; pattern = u .pattern }) ls) (sym after-state)
 
-          held : (s₀ : State) (b₀ : List ℕ) (l : Laid j s₀ b₀ ws b k) (t : Bool) → j .goal .listed ≡ t → b' ≡ settle-by (j .goal .listed) (onto (tileWords (map (listed (j .straight)) (l .tiles ++ (next ∷ [])))) b₀) b₀
+          held : (s₀ : State) (b₀ : List ℕ) (l : Laid j s₀ b₀ ws b k) (t : Bool) → j .goal .listed ≡ t → b' ≡ pick (j .goal .listed) (onto (tileWords (map (listed (j .straight)) (l .tiles ++ (next ∷ [])))) b₀) b₀
           held s₀ b₀ l true t =
               let h : b ≡ onto (tileWords (map (listed (j .straight)) (l .tiles))) b₀ = rw t at (l .held) in
               e ∙ (rw (t, h, l .counted, map-append (listed (j .straight)) (l .tiles) (next ∷ []), ← length-map (l .tiles) (listed (j .straight))) (listed-more (map (listed (j .straight)) (l .tiles)) (listed (j .straight) next ∷ []) b₀))

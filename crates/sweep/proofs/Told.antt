@@ -20,11 +20,11 @@ use Rattle.tiling.specs.Run.{run, equalRun}
 use Rattle.tiling.specs.Tiling.{State, runAt}
 use Rattle.tiling.proofs.Run.{run-within, run-match, run-least, run-most}
 use Rattle.tiling.proofs.Replaced.{run-current}
-use Rattle.sweep.specs.Workspace.{Space, state, bound}
+use Rattle.bounds.specs.Workspace.{Space, state, bound}
 use Rattle.sweep.specs.Row.{alikeBound, boundBy, freeWords, before, takenOver}
 use Rattle.sweep.specs.Progress.{UpperFrom, RowBound}
-use Rattle.sweep.specs.declared.Job.{Job}
-use Rattle.sweep.proofs.Workspace.{pattern-length}
+use Rattle.bounds.specs.declared.Job.{Job}
+use Rattle.bounds.proofs.Workspace.{pattern-length}
 
 -- ---- the first words of two rows
 -- Of two lists cut after the same number of words.

@@ -9,13 +9,13 @@ use mathlib.Core.Path.{_≡_, refl, sym, _∙_, ap, subst}
 use mathlib.Core.Bool.{Bool, true, false}
 use mathlib.Core.List.{List, _++_}
 use lib.ListN.{length, getD}
-use Rattle.sweep.specs.Workspace.{state, bound}
-use Rattle.sweep.specs.Row.{Greatest}
-use Rattle.sweep.specs.Blocks.{Covering}
-use Rattle.sweep.specs.First.{First}
+use Rattle.bounds.specs.Workspace.{state, bound}
+use Rattle.bounds.specs.Greatest.{Greatest}
+use Rattle.bounds.specs.Blocks.{Covering}
+use Rattle.bounds.specs.First.{First}
 use Rattle.sweep.specs.Goal.{atGoal, untilGoal}
 use Rattle.sweep.specs.Progress.{Fits, Bounded, Onward, Sweeping, Over, Ready, Finished}
-use Rattle.sweep.specs.declared.Job.{Job}
+use Rattle.bounds.specs.declared.Job.{Job}
 use Rattle.sweep.specs.declared.Totals.{Totals}
 use Rattle.symbol.specs.Word.{isCall}
 use Rattle.tiling.specs.Tally.{tally}
@@ -24,8 +24,8 @@ use Rattle.tiling.specs.Tiling.{State, best, size, lay}
 use Rattle.tiling.specs.Greedy.{Greedy}
 use Rattle.tiling.proofs.Best.{best-is}
 use Rattle.sweep.proofs.Step.{below-level}
-use Rattle.sweep.proofs.Blocks.{covering-top}
-use Rattle.sweep.proofs.Workspace.{space-kept, pattern-length}
+use Rattle.bounds.proofs.Blocks.{covering-top}
+use Rattle.bounds.proofs.Workspace.{space-kept, pattern-length}
 use Rattle.stretch.proofs.Fillable.{fillable-most}
 
 pub onward-none : (j : Job) (ws b : List ℕ) (k : Totals) → Onward j ws b k ws b k

@@ -6,8 +6,8 @@ use lib.Dec.{leb, ltb}
 use Rattle.tiling.specs.Tiling.{Tile, onPattern, size}
 use Rattle.tiling.specs.Stretch.{fillable}
 use Rattle.tiling.specs.Until.{Far, until}
-use Rattle.sweep.specs.declared.Goal.{Goal}
-use Rattle.sweep.specs.declared.Job.{Job}
+use Rattle.bounds.specs.declared.Goal.{Goal}
+use Rattle.bounds.specs.declared.Job.{Job}
 use Rattle.sweep.specs.declared.Totals.{Totals}
 
 -- As many words are covered as are enough, or fewer than are needed can still be.

@@ -13,11 +13,11 @@ use Rattle.tiling.specs.Stretch.{fillable}
 use Rattle.tiling.specs.Until.{Far, unlaid}
 use Rattle.tiling.specs.Greedy.{Greedy}
 use Rattle.tile.specs.Listed.{listed}
-use Rattle.sweep.specs.Workspace.{Space, state, bound}
+use Rattle.bounds.specs.Workspace.{Space, state, bound}
 use Rattle.sweep.specs.Goal.{atGoal, untilGoal}
-use Rattle.sweep.specs.Settled.{settle-by}
+use Rattle.sweep.specs.Settled.{pick}
 use Rattle.sweep.specs.declared.Found.{Found}
-use Rattle.sweep.specs.declared.Job.{Job}
+use Rattle.bounds.specs.declared.Job.{Job}
 use Rattle.sweep.specs.declared.Totals.{Totals}
 
 -- Why everything fits: each tile has at least the minimum of words, and what is covered was free calls of the pattern. And what further tiles
@@ -41,17 +41,13 @@ pub record Laid (j : Job) (s₀ : State) (b₀ : List ℕ) (ws b : List ℕ) (k 
   pub tiles : List Tile
   pub rest : (ls : List Tile) → Greedy best size lay (j .minimum) (state j ws) ls → Greedy best size lay (j .minimum) s₀ (tiles ++ ls)
   pub going : (ls : List Tile) → untilGoal j (unlaid (s₀ .pattern)) (tiles ++ ls) ≡ tiles ++ untilGoal j (far j ws k) ls
-  pub held : b ≡ settle-by (j .goal .listed) (onto (tileWords (map (listed (j .straight)) tiles)) b₀) b₀
+  pub held : b ≡ pick (j .goal .listed) (onto (tileWords (map (listed (j .straight)) tiles)) b₀) b₀
   pub counted : k .count ≡ length tiles
   pub summed : k .covered ≡ covered (map (listed (j .straight)) tiles)
 
 -- What was laid before is laid after, with more tiles at its end.
 pub record Onward (j : Job) (ws b : List ℕ) (k : Totals) (ws' b' : List ℕ) (k' : Totals) : Type 0 where
   pub keeps : (s₀ : State) (b₀ : List ℕ) → Laid j s₀ b₀ ws b k → Laid j s₀ b₀ ws' b' k'
-
--- No bound rises.
-pub record Falling (j : Job) (ws ws' : List ℕ) : Type 0 where
-  pub falls : (q : ℕ) → q < j .n → bound j ws' q ≤ bound j ws q
 
 -- No run of a row exceeds its bound, no bound the level, and the rows before p are below the level.
 pub record Bounded (j : Job) (ws : List ℕ) (level p : ℕ) : Type 0 where

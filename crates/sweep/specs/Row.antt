@@ -1,4 +1,4 @@
--- What searching a row promises, and the greatest of the bounds. No reader of the engines' contracts needs these: they tie the functions
+-- What searching a row promises, and what is known of one without a search. No reader of the engines' contracts needs these: they tie the functions
 -- of the engines together.
 use Prim.Native.Nat.{ℕ, zero, suc, _-_, _*_, _≤_, _<_, min}
 use mathlib.Core.Bool.{Bool, true, false, not, _&&_}
@@ -10,9 +10,9 @@ use lib.ListN.{drop, getD}
 use Rattle.symbol.specs.Word.{isCall}
 use Rattle.tile.specs.declared.TextAt.{TextAt}
 use Rattle.tiling.specs.Run.{run}
-use Rattle.sweep.specs.Workspace.{state, bound}
+use Rattle.bounds.specs.Workspace.{state, bound}
 use Rattle.sweep.specs.declared.Found.{Found}
-use Rattle.sweep.specs.declared.Job.{Job}
+use Rattle.bounds.specs.declared.Job.{Job}
 
 -- The longest run from the start of ps to a position of ts, and the first position that has it, if it is longer than the floor. No case
 -- for "none": what is found is then the floor.
@@ -25,17 +25,6 @@ pub record Row (ps ts : List ℕ) (floor : ℕ) (f : Found) : Type 0 where
 -- The longer of what was found and a run of len words at t; of equal ones, what was found.
 unfoldable pub better : Found → TextAt → ℕ → Found
 better f t len = elim (ltb (f .len) len) [ true ↦ record { t = t; len = len } | false ↦ f ]
-
--- r is one of f 0, .. f (n - 1).
-pub record Among (f : ℕ → ℕ) (n r : ℕ) : Type 0 where
-  pub at : ℕ
-  pub below : at < n
-  pub here : f at ≡ r
-
--- r is the greatest of f 0, .. f (n - 1), or 0 where there is none above it: none of them is greater, and it is one of them.
-pub record Greatest (f : ℕ → ℕ) (n r : ℕ) : Type 0 where
-  pub most : (i : ℕ) → i < n → f i ≤ r
-  pub one : 0 < r → Among f n r
 
 -- What row q tells of row p, of which no run exceeds cap: q's bound, where it is below cap and both rows begin with the same calls for more
 -- words than that; else cap.

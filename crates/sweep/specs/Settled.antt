@@ -11,20 +11,20 @@ use Rattle.tiling.specs.Tiling.{Tile}
 use Rattle.tiling.specs.Listing.{tileWords}
 use Rattle.tiling.specs.Stretch.{fillable}
 use Rattle.tile.specs.Listed.{listed}
-use Rattle.sweep.specs.Workspace.{state, boundsFrom, laid}
+use Rattle.bounds.specs.Workspace.{state, boundsFrom, laid}
 use Rattle.sweep.specs.declared.Found.{Found}
-use Rattle.sweep.specs.declared.Job.{Job}
+use Rattle.bounds.specs.declared.Job.{Job}
 use Rattle.sweep.specs.declared.Totals.{Totals}
 
 -- One of two, by a test.
-abbrev pub settle-by : {A : Type 0} → Bool → A → A → A
-settle-by true laid lowered = laid
-settle-by false laid lowered = lowered
+abbrev pub pick : {A : Type 0} → Bool → A → A → A
+pick true laid lowered = laid
+pick false laid lowered = lowered
 
 -- The tile buffer with one tile after those that it has, where tiles are listed.
 abbrev pub oneMore : Job → ℕ → Tile → List ℕ → List ℕ
 oneMore j count k b =
-    settle-by (j .goal .listed) (take (3 * count) b ++ onto (tileWords (listed (j .straight) k ∷ [])) (drop (3 * count) b)) b
+    pick (j .goal .listed) (take (3 * count) b ++ onto (tileWords (listed (j .straight) k ∷ [])) (drop (3 * count) b)) b
 
 -- The record of the comparison after a tile of len words at p.
 abbrev pub laidTotals : Job → ℕ → ℕ → List ℕ → Totals → Totals
@@ -33,13 +33,13 @@ laidTotals j p len ws k =
 
 -- The workspace, the tile buffer and the totals.
 abbrev pub settledWords : Job → ℕ → ℕ → Found → List ℕ → List ℕ
-settledWords j level p f ws = settle-by (eqb (f .len) level) (laid j p (f .t .0) level ws) (set ws (boundsFrom j + p) (f .len))
+settledWords j level p f ws = pick (eqb (f .len) level) (laid j p (f .t .0) level ws) (set ws (boundsFrom j + p) (f .len))
 
 abbrev pub settledTiles : Job → ℕ → ℕ → Found → Totals → List ℕ → List ℕ
-settledTiles j level p f k b = settle-by (eqb (f .len) level) (oneMore j (k .count) (record { p = p; t = f .t .0; len = level }) b) b
+settledTiles j level p f k b = pick (eqb (f .len) level) (oneMore j (k .count) (record { p = p; t = f .t .0; len = level }) b) b
 
 abbrev pub settledTotals : Job → ℕ → ℕ → Found → List ℕ → Totals → Totals
-settledTotals j level p f ws k = settle-by (eqb (f .len) level) (laidTotals j p level ws k) k
+settledTotals j level p f ws k = pick (eqb (f .len) level) (laidTotals j p level ws k) k
 
 -- How many rows from that one on have a new bound.
 unfoldable pub settledRows : Totals → Totals → ℕ → ℕ

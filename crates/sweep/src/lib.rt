@@ -1,39 +1,21 @@
-// What both engines share of a comparison under way: the parts of the workspace, laying a tile, and the bounds of the
-// rows.
+// What both engines share of a comparison under way: what is known of a row without a search, laying a tile, and where to stop.
+use bounds::Job;
 use tile::PatternAt;
 use tile::TextAt;
 ghost use mathlib.Core.Path.{_≡_};
 ghost use mathlib.Core.Bool.{true, false};
-ghost use Prim.Native.Nat.{_+_, _-_, _*_, _/_, _≤_, _<_, min, max};
+ghost use Prim.Native.Nat.{_+_, _*_, _≤_, _<_};
 ghost use lib.Dec.{ltb};
-ghost use lib.ListN.{length, drop, getD, set};
+ghost use lib.ListN.{length, drop};
 ghost use Rattle.tiling.specs.Run.{run, equalRun, mark};
 ghost use Rattle.tiling.specs.Stretch.{fillable};
 ghost use Rattle.stretch.specs.Sides.{OnFree};
-ghost use Rattle.sweep.specs.Workspace.{Space, state, boundsFrom, bound, laid};
-ghost use Rattle.sweep.specs.Row.{better, Greatest, alikeBound, boundBy, freeWords, passedOver, before, takenOver};
-ghost use Rattle.sweep.specs.First.{First};
-ghost use Rattle.sweep.specs.Blocks.{BlockSet, Refreshed, Covering, rowAfter};
+ghost use Rattle.bounds.specs.Workspace.{Space, state, bound, laid};
+ghost use Rattle.bounds.specs.Blocks.{Falling};
+ghost use Rattle.sweep.specs.Row.{better, alikeBound, boundBy, freeWords, passedOver, before, takenOver};
 ghost use Rattle.sweep.specs.Goal.{atGoal};
 ghost use Rattle.sweep.specs.Settled.{oneMore, laidTotals, settledWords, settledTiles, settledTotals, settledRows};
-ghost use Rattle.sweep.specs.Progress.{Searched, Sweeping, Onward, Falling};
-
-// What a comparison is for: whether its tiles are listed, and where it stops: when as many words are covered as are enough, or
-// when fewer than are needed can still be. A whole comparison lists its tiles and never stops.
-pub struct Goal {
-    pub listed: bool,
-    pub enough: usize,
-    pub needed: usize,
-}
-
-// What a comparison works on: the lengths of pattern and text, the minimum, whether the first sequence is the pattern, and its goal.
-pub struct Job {
-    pub n: usize,
-    pub m: usize,
-    pub minimum: usize,
-    pub straight: bool,
-    pub goal: Goal,
-}
+ghost use Rattle.sweep.specs.Progress.{Searched, Sweeping, Onward};
 
 // The longest run of a row and the first position on the text that has it.
 pub struct Found {
@@ -73,106 +55,6 @@ pub fn keep(found: Found, t: TextAt, len: usize) -> Found
     found
 }
 
-// A word as a length or a position.
-pub fn wide(w: u32) -> usize
-    ensures { λ r. ⌜ r ≡ w ⌝ }
-{
-    w as usize
-}
-
-// The bound of a row.
-pub fn bound_of(ws: &[u32], job: Job, p: PatternAt) -> usize
-    requires { ⌜ Space job (now ws) × (p .0 < job .n) ⌝ }
-    ensures { λ r. ⌜ r ≡ bound job (now (ws .entry)) (p .0) ⌝ }
-{
-    let at = 2 * (job.n + job.m) + p.0;
-    wide(ws[at])
-}
-
-// Sets the bound of a row.
-pub fn set_bound(ws: &mut [u32], job: Job, p: PatternAt, value: usize)
-    requires { ⌜ Space job (now ws) × (p .0 < job .n) × (value ≤ 2048) ⌝ }
-    ensures { λ r. ⌜ now (ws .exit) ≡ set (now (ws .entry)) (boundsFrom job + p .0) value ⌝ }
-{
-    let at = 2 * (job.n + job.m) + p.0;
-    ws[at] = value as u32;
-}
-
-// The greatest of some words; 0 where there are none.
-fn greatest(words: &[u32]) -> u32
-    ensures { λ r. ⌜ Greatest (λ i. getD (now (words .entry)) i 0) (length (now (words .entry))) r ⌝ }
-{
-    let mut most = 0;
-    let mut i = 0;
-    while i < words.len() {
-        most = larger(most, words[i]);
-        i += 1;
-    }
-    most
-}
-
-// The larger of two words.
-fn larger(a: u32, b: u32) -> u32
-    ensures { λ r. ⌜ r ≡ max a b ⌝ }
-{
-    if a < b {
-        return b;
-    }
-    a
-}
-
-// The greatest bound of the rows from `from` up to `to`.
-fn greatest_bound(ws: &[u32], job: Job, from: usize, to: usize) -> u32
-    requires { ⌜ Space job (now ws) × (from ≤ to) × (to ≤ job .n) ⌝ }
-    ensures { λ r. ⌜ Greatest (λ i. bound job (now (ws .entry)) (from + i)) (to - from) r ⌝ }
-{
-    let start = 2 * (job.n + job.m);
-    let begin = start + from;
-    let end = start + to;
-    greatest(&ws[begin..end])
-}
-
-// Stores a word.
-pub fn store(words: &mut [u32], at: usize, value: u32)
-    requires { ⌜ at < length (now words) ⌝ }
-    ensures { λ r. ⌜ (now (words .exit) ≡ set (now (words .entry)) at value) × (getD (now (words .exit)) at 0 ≡ value) ⌝ }
-{
-    words[at] = value;
-}
-
-// Sets the greatest bound of a block of 32 rows anew.
-fn set_block(ws: &[u32], job: Job, blocks: &mut [u32; 64], b: usize)
-    requires { ⌜ Space job (now ws) × (32 * b < job .n) ⌝ }
-    ensures { λ r. ⌜ BlockSet job (now (ws .entry)) b (now (blocks .entry)) (now (blocks .exit)) ⌝ }
-{
-    let from = 32 * b;
-    let to = buffer::lesser(from + 32, job.n);
-    let most = greatest_bound(ws, job, from, to);
-    store(blocks, b, most);
-}
-
-// Sets the greatest bounds of the blocks from one up to another anew.
-fn set_blocks(ws: &[u32], job: Job, blocks: &mut [u32; 64], from: usize, to: usize)
-    requires { ⌜ Space job (now ws) × (to ≤ (job .n + 31) / 32) ⌝ }
-    ensures { λ r. ⌜ Refreshed job (now (ws .entry)) from to (now (blocks .entry)) (now (blocks .exit)) ⌝ }
-{
-    let mut b = from;
-    while b < to {
-        set_block(ws, job, blocks, b);
-        b += 1;
-    }
-}
-
-// Sets the greatest bounds of the blocks of some rows from p on anew.
-pub fn refresh(ws: &[u32], job: Job, blocks: &mut [u32; 64], p: PatternAt, rows: usize)
-    requires { ⌜ Space job (now ws) × (p .0 ≤ job .n) ⌝ }
-    ensures { λ r. ⌜ Refreshed job (now (ws .entry)) (p .0 / 32) ((p .0 + min rows (job .n - p .0) + 31) / 32) (now (blocks .entry)) (now (blocks .exit)) ⌝ }
-{
-    let from = p.0;
-    let to = from + buffer::lesser(rows, job.n - from);
-    set_blocks(ws, job, blocks, from / 32, (to + 31) / 32);
-}
-
 // How many rows have a new bound after one was settled: those of the tile that was laid, or the row itself.
 pub fn settled_rows(before: Totals, after: Totals, level: usize) -> usize
     ensures { λ r. ⌜ r ≡ settledRows before after level ⌝ }
@@ -181,45 +63,6 @@ pub fn settled_rows(before: Totals, after: Totals, level: usize) -> usize
         return 1;
     }
     level
-}
-
-// The greatest of all blocks.
-pub fn top(blocks: &[u32; 64]) -> usize
-    ensures { λ r. ⌜ Greatest (λ b. getD (now (blocks .entry)) b 0) 64 r ⌝ }
-{
-    wide(greatest(blocks))
-}
-
-// The next row that may have the level for its bound, after one that has not: where the level is above the greatest bound of
-// its block, the first of the next block.
-fn row_after(blocks: &[u32; 64], level: usize, p: usize) -> usize
-    requires { ⌜ p < 2048 ⌝ }
-    ensures { λ r. ⌜ r ≡ rowAfter (now (blocks .entry)) level p ⌝ }
-{
-    let b = p / 32;
-    if wide(blocks[b]) < level {
-        return 32 * b + 32;
-    }
-    p + 1
-}
-
-// The first row from `from` on whose bound is the level, or one past the last. Blocks of rows that are below the level are
-// passed over.
-pub fn next_row(
-    ws: &[u32],
-    job: Job,
-    blocks: &[u32; 64],
-    level: usize,
-    from: PatternAt,
-) -> PatternAt
-    requires { ⌜ Space job (now ws) × (from .0 ≤ job .n) × Covering job (now ws) (now blocks) ⌝ }
-    ensures { λ r. ⌜ First (λ q. bound job (now (ws .entry)) q ≡ level) (from .0) (job .n) (r .0) ⌝ }
-{
-    let mut p = from.0;
-    while p < job.n && bound_of(ws, job, PatternAt(p)) != level {
-        p = buffer::lesser(row_after(blocks, level, p), job.n);
-    }
-    PatternAt(p)
 }
 
 // Whether two rows begin with the same calls for more than len words.
@@ -246,7 +89,7 @@ fn alike_bound(ws: &[u32], job: Job, p: PatternAt, q: PatternAt, cap: usize) -> 
     requires { ⌜ Space job (now ws) × (p .0 < job .n) × (q .0 < job .n) ⌝ }
     ensures { λ r. ⌜ r ≡ alikeBound job (now (ws .entry)) (p .0) (q .0) cap ⌝ }
 {
-    let len = bound_of(ws, job, q);
+    let len = bounds::bound_of(ws, job, q);
     if cap <= len {
         return cap;
     }
@@ -407,7 +250,7 @@ pub fn settle(
     ensures { λ r. ⌜ Falling job (now (ws .entry)) (now (ws .exit)) ⌝ }
 {
     if found.len != level {
-        set_bound(ws, job, p, found.len);
+        bounds::set_bound(ws, job, p, found.len);
         return totals;
     }
     list(tiles, job, totals.count, p, found.t, level);

@@ -1,6 +1,6 @@
 -- `passes::prepare` meets its contract: an index changes no word of the sequences, and all blocks are set.
 -- Assumes nothing.
-use Rattle.sweep.proofs.Blocks.{covering-all}
+use Rattle.bounds.proofs.Blocks.{covering-all}
 use Rattle.passes.proofs.Passes.{filled-built}
 use borrow.Author.Needs.{needs}
 use Rattle.passes.proofs.prepare.Statement.{statement}

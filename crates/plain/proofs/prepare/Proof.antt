@@ -1,6 +1,6 @@
 -- `plain::prepare` meets its contract: all blocks are set.
 -- Assumes nothing.
-use Rattle.sweep.proofs.Blocks.{covering-all}
+use Rattle.bounds.proofs.Blocks.{covering-all}
 use borrow.Author.Needs.{needs}
 use Rattle.plain.proofs.prepare.Statement.{statement}
 use Rattle.plain.proofs.prepare.Tie as tie

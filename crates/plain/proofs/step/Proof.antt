@@ -1,6 +1,6 @@
 -- `plain::step` meets its contract: bounds only fall, and the blocks that are set anew are the greatest of theirs.
 -- Assumes nothing.
-use Rattle.sweep.proofs.Blocks.{covering-after}
+use Rattle.bounds.proofs.Blocks.{covering-after}
 use borrow.Author.Needs.{needs}
 use Rattle.plain.proofs.step.Statement.{statement}
 use Rattle.plain.proofs.step.Tie as tie

@@ -1,6 +1,6 @@
 -- `sweep::lay_tile` meets its contract: it makes the three marks by which a tile is laid, each within the workspace.
 -- Assumes nothing.
-use Rattle.sweep.proofs.Workspace.{laid-all}
+use Rattle.bounds.proofs.Workspace.{laid-all}
 use borrow.Author.Needs.{needs}
 use Rattle.sweep.proofs.lay_tile.Statement.{statement}
 use Rattle.sweep.proofs.lay_tile.Tie as tie

@@ -1,9 +1,9 @@
--- `sweep::set_block` meets its contract: the greatest bound of the rows of the block is stored.
+-- `bounds::set_block` meets its contract: the greatest bound of the rows of the block is stored.
 -- Assumes nothing.
-use Rattle.sweep.proofs.Blocks.{block-made}
+use Rattle.bounds.proofs.Blocks.{block-made}
 use borrow.Author.Needs.{needs}
-use Rattle.sweep.proofs.set_block.Statement.{statement}
-use Rattle.sweep.proofs.set_block.Tie as tie
+use Rattle.bounds.proofs.set_block.Statement.{statement}
+use Rattle.bounds.proofs.set_block.Tie as tie
 
 mul-from : tie.Need-mul-from
 mul-from c = search needs

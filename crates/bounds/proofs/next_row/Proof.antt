@@ -1,14 +1,14 @@
--- `sweep::next_row` meets its contract: at the head of each turn no row from `from` up to p has the level for its bound.
+-- `bounds::next_row` meets its contract: at the head of each turn no row from `from` up to p has the level for its bound.
 -- Assumes nothing.
 use Prim.Native.Nat.{_-_}
 use borrow.Author.Tests.{eqb-true, eqb-false, not-true, not-false}
 use mathlib.Core.Path.{_≡_}
-use Rattle.sweep.specs.Workspace.{bound}
-use Rattle.sweep.proofs.First.{Passing, passing-none, first-none, first-at}
-use Rattle.sweep.proofs.Blocks.{not-level, is-level, passing-row, passing-less}
+use Rattle.bounds.specs.Workspace.{bound}
+use Rattle.bounds.proofs.First.{Passing, passing-none, first-none, first-at}
+use Rattle.bounds.proofs.Blocks.{not-level, is-level, passing-row, passing-less}
 use borrow.Author.Needs.{needs}
-use Rattle.sweep.proofs.next_row.Statement.{statement}
-use Rattle.sweep.proofs.next_row.Tie as tie
+use Rattle.bounds.proofs.next_row.Statement.{statement}
+use Rattle.bounds.proofs.next_row.Tie as tie
 
 abbrev Inv-loop : tie.InvT-loop
 Inv-loop ws job blocks level p₀ p = Passing (λ q. bound job ws q ≡ level) p₀ (job .n) p

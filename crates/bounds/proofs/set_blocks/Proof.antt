@@ -1,10 +1,10 @@
--- `sweep::set_blocks` meets its contract: at the head of each turn the blocks before b are set anew.
+-- `bounds::set_blocks` meets its contract: at the head of each turn the blocks before b are set anew.
 -- Assumes nothing.
 use Prim.Native.Nat.{_-_}
-use Rattle.sweep.proofs.Blocks.{Refreshing, refreshing-none, refreshing-more, refreshing-all}
+use Rattle.bounds.proofs.Blocks.{Refreshing, refreshing-none, refreshing-more, refreshing-all}
 use borrow.Author.Needs.{needs}
-use Rattle.sweep.proofs.set_blocks.Statement.{statement}
-use Rattle.sweep.proofs.set_blocks.Tie as tie
+use Rattle.bounds.proofs.set_blocks.Statement.{statement}
+use Rattle.bounds.proofs.set_blocks.Tie as tie
 
 abbrev Inv-loop : tie.InvT-loop
 Inv-loop ws job blocks₀ from to b₀ blocks b = Refreshing job ws from to b blocks₀ blocks

@@ -1,9 +1,9 @@
--- `sweep::greatest_bound` meets its contract: the bounds of the rows are the part of the workspace that is searched for its greatest word.
+-- `bounds::greatest_bound` meets its contract: the bounds of the rows are the part of the workspace that is searched for its greatest word.
 -- Assumes nothing.
-use Rattle.sweep.proofs.Workspace.{greatest-rows}
+use Rattle.bounds.proofs.Workspace.{greatest-rows}
 use borrow.Author.Needs.{needs}
-use Rattle.sweep.proofs.greatest_bound.Statement.{statement}
-use Rattle.sweep.proofs.greatest_bound.Tie as tie
+use Rattle.bounds.proofs.greatest_bound.Statement.{statement}
+use Rattle.bounds.proofs.greatest_bound.Tie as tie
 
 add-start : tie.Need-add-start
 add-start c = search needs

@@ -1,9 +1,9 @@
--- `sweep::refresh` meets its contract: the blocks of the rows are those from the first row up to the last.
+-- `bounds::refresh` meets its contract: the blocks of the rows are those from the first row up to the last.
 -- Assumes nothing.
-use Rattle.sweep.proofs.Blocks.{refreshed-rows}
+use Rattle.bounds.proofs.Blocks.{refreshed-rows}
 use borrow.Author.Needs.{needs}
-use Rattle.sweep.proofs.refresh.Statement.{statement}
-use Rattle.sweep.proofs.refresh.Tie as tie
+use Rattle.bounds.proofs.refresh.Statement.{statement}
+use Rattle.bounds.proofs.refresh.Tie as tie
 
 sub-lesser : tie.Need-sub-lesser
 sub-lesser c = search needs

@@ -1,9 +1,9 @@
--- `sweep::row_after` meets its contract: it goes by the block of the row.
+-- `bounds::row_after` meets its contract: it goes by the block of the row.
 -- Assumes nothing.
-use Rattle.sweep.proofs.Blocks.{row-after-block, row-after-one}
+use Rattle.bounds.proofs.Blocks.{row-after-block, row-after-one}
 use borrow.Author.Needs.{needs}
-use Rattle.sweep.proofs.row_after.Statement.{statement}
-use Rattle.sweep.proofs.row_after.Tie as tie
+use Rattle.bounds.proofs.row_after.Statement.{statement}
+use Rattle.bounds.proofs.row_after.Tie as tie
 
 mul-wide : tie.Need-mul-wide
 mul-wide c = search needs

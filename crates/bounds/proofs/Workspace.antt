@@ -11,9 +11,9 @@ use Rattle.tiling.specs.Tiling.{State, lay, AllCurrent}
 use Rattle.tiling.proofs.Run.{length-mark, mark-before, mark-inside, mark-after}
 use Rattle.tiling.proofs.Replaced.{current-lay}
 use Rattle.tile.proofs.Marking.{take-mark-in, take-mark-out, drop-mark-in, drop-mark-out}
-use Rattle.sweep.specs.Workspace.{Space, state, boundsFrom, bound, laid}
-use Rattle.sweep.specs.Row.{Greatest}
-use Rattle.sweep.specs.declared.Job.{Job}
+use Rattle.bounds.specs.Workspace.{Space, state, boundsFrom, bound, laid}
+use Rattle.bounds.specs.Greatest.{Greatest}
+use Rattle.bounds.specs.declared.Job.{Job}
 
 -- ---- the sequences in the workspace
 same-state : (s u : State) → s .pattern ≡ u .pattern → s .text ≡ u .text → s ≡ u

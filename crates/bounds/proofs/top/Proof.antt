@@ -1,9 +1,9 @@
--- `sweep::top` meets its contract: it is the greatest of the 64 words.
+-- `bounds::top` meets its contract: it is the greatest of the 64 words.
 -- Assumes nothing.
-use Rattle.sweep.proofs.Blocks.{top-all}
+use Rattle.bounds.proofs.Blocks.{top-all}
 use borrow.Author.Needs.{needs}
-use Rattle.sweep.proofs.top.Statement.{statement}
-use Rattle.sweep.proofs.top.Tie as tie
+use Rattle.bounds.proofs.top.Statement.{statement}
+use Rattle.bounds.proofs.top.Tie as tie
 
 greatest-requires : tie.Need-greatest-requires
 greatest-requires c κs = search needs

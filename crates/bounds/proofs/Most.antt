@@ -7,7 +7,7 @@ use native.Mathlib.Omega.{arith}
 use mathlib.Core.Path.{_≡_}
 use mathlib.Core.List.{List}
 use lib.ListN.{length, getD}
-use Rattle.sweep.specs.Row.{Among, Greatest}
+use Rattle.bounds.specs.Greatest.{Among, Greatest}
 
 pub record Seen (words : List ℕ) (i r : ℕ) : Type 0 where
   pub within : i ≤ length words

@@ -5,9 +5,9 @@ use mathlib.Core.Path.{_≡_}
 use mathlib.Core.List.{List}
 use lib.Dec.{ltb}
 use lib.ListN.{getD, set}
-use Rattle.sweep.specs.Workspace.{bound}
-use Rattle.sweep.specs.Row.{Greatest}
-use Rattle.sweep.specs.declared.Job.{Job}
+use Rattle.bounds.specs.Workspace.{bound}
+use Rattle.bounds.specs.Greatest.{Greatest}
+use Rattle.bounds.specs.declared.Job.{Job}
 
 -- The number is the greatest bound of block b. The last block may have fewer rows than the others.
 abbrev pub Tops : Job → List ℕ → ℕ → ℕ → Type 0
@@ -33,3 +33,7 @@ pub record Covering (j : Job) (ws bs : List ℕ) : Type 0 where
 -- Where the level is above what stands for the block of row p, the first row of the next block; else the next row.
 unfoldable pub rowAfter : List ℕ → ℕ → ℕ → ℕ
 rowAfter bs level p = elim (ltb (getD bs (p / 32) 0) level) [ true ↦ 32 * (p / 32) + 32 | false ↦ p + 1 ]
+
+-- No bound rises.
+pub record Falling (j : Job) (ws ws' : List ℕ) : Type 0 where
+  pub falls : (q : ℕ) → q < j .n → bound j ws' q ≤ bound j ws q

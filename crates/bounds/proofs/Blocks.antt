@@ -11,12 +11,11 @@ use borrow.Author.Tests.{ltb-true, lt-ltb, le-ltb}
 use lib.Dec.{ltb}
 use lib.ListN.{length, getD, set}
 use lib.Seq.{getD-set-other}
-use Rattle.sweep.specs.Workspace.{Space, bound}
-use Rattle.sweep.specs.Row.{Greatest}
-use Rattle.sweep.specs.Blocks.{Tops, BlockSet, Refreshed, Covering, rowAfter}
-use Rattle.sweep.specs.Progress.{Falling}
-use Rattle.sweep.specs.declared.Job.{Job}
-use Rattle.sweep.proofs.First.{Passing, passing-to}
+use Rattle.bounds.specs.Workspace.{Space, bound}
+use Rattle.bounds.specs.Greatest.{Greatest}
+use Rattle.bounds.specs.Blocks.{Tops, BlockSet, Refreshed, Covering, rowAfter, Falling}
+use Rattle.bounds.specs.declared.Job.{Job}
+use Rattle.bounds.proofs.First.{Passing, passing-to}
 
 -- ---- setting blocks anew
 pub block-made : (j : Job) (ws : List ℕ) (b to top : ℕ) (bs bs' : List ℕ) → to ≡ min (32 * b + 32) (j .n) → Greatest (λ i. bound j ws (32 * b + i)) (to - 32 * b) top → bs' ≡ set bs b top → getD bs' b 0 ≡ top → BlockSet j ws b bs bs'

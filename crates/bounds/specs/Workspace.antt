@@ -5,7 +5,7 @@ use mathlib.Core.List.{List}
 use lib.ListN.{length, take, drop, getD}
 use Rattle.tiling.specs.Run.{mark}
 use Rattle.tiling.specs.Tiling.{State, AllCurrent}
-use Rattle.sweep.specs.declared.Job.{Job}
+use Rattle.bounds.specs.declared.Job.{Job}
 
 -- The two sequences with the words marked so far.
 abbrev pub state : Job → List ℕ → State

@@ -1,11 +1,11 @@
--- `sweep::greatest` meets its contract: at the head of each turn `most` is the greatest of the words before i.
+-- `bounds::greatest` meets its contract: at the head of each turn `most` is the greatest of the words before i.
 -- Assumes nothing.
 use Prim.Native.Nat.{_-_}
 use lib.ListN.{length}
 use borrow.Author.Needs.{needs}
-use Rattle.sweep.proofs.Most.{Seen, seen-none, seen-more, seen-all}
-use Rattle.sweep.proofs.greatest.Statement.{statement}
-use Rattle.sweep.proofs.greatest.Tie as tie
+use Rattle.bounds.proofs.Most.{Seen, seen-none, seen-more, seen-all}
+use Rattle.bounds.proofs.greatest.Statement.{statement}
+use Rattle.bounds.proofs.greatest.Tie as tie
 
 abbrev Inv-loop : tie.InvT-loop
 Inv-loop words most₀ i₀ most i = Seen words i most

@@ -1,0 +1,4 @@
+pub mod Workspace
+pub mod Most
+pub mod First
+pub mod Blocks

@@ -1,0 +1,4 @@
+pub mod Workspace
+pub mod Greatest
+pub mod First
+pub mod Blocks
