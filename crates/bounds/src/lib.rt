@@ -8,21 +8,12 @@ ghost use Rattle.bounds.specs.Greatest.{Greatest};
 ghost use Rattle.bounds.specs.First.{First};
 ghost use Rattle.bounds.specs.Blocks.{BlockSet, Refreshed, Covering, rowAfter};
 
-// What a comparison is for: whether its tiles are listed, and where it stops: when as many words are covered as are enough, or
-// when fewer than are needed can still be. A whole comparison lists its tiles and never stops.
-pub struct Goal {
-    pub listed: bool,
-    pub enough: usize,
-    pub needed: usize,
-}
-
-// What a comparison works on: the lengths of pattern and text, the minimum, whether the first sequence is the pattern, and its goal.
+// What a comparison works on: the lengths of pattern and text, the minimum, and whether the first sequence is the pattern.
 pub struct Job {
     pub n: usize,
     pub m: usize,
     pub minimum: usize,
     pub straight: bool,
-    pub goal: Goal,
 }
 
 // A word as a length or a position.

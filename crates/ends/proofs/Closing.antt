@@ -18,7 +18,7 @@ use Rattle.tiling.specs.Answer.{Compares}
 use Rattle.tiling.specs.declared.Compared.{Compared}
 use Rattle.tile.proofs.Marking.{mark-all}
 use Rattle.sweep.specs.Goal.{stopsAt, stopped}
-use Rattle.bounds.specs.declared.Goal.{Goal}
+use Rattle.sweep.specs.declared.Goal.{Goal}
 use Rattle.sweep.specs.declared.Totals.{Totals}
 use Rattle.ends.specs.Ends.{wholeGoal, refusedBy, Closed}
 use Rattle.ends.specs.Result.{Room, Ran}

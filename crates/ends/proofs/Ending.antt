@@ -26,7 +26,7 @@ use Rattle.bounds.specs.Workspace.{state}
 use Rattle.sweep.specs.Goal.{stopsAt, atGoal, stopped, untilGoal}
 use Rattle.sweep.specs.Settled.{pick}
 use Rattle.sweep.specs.Progress.{Fits, far, Laid, Finished}
-use Rattle.bounds.specs.declared.Goal.{Goal}
+use Rattle.sweep.specs.declared.Goal.{Goal}
 use Rattle.bounds.specs.declared.Job.{Job}
 use Rattle.sweep.specs.declared.Totals.{Totals}
 use Rattle.sweep.proofs.Step.{goal-is}
@@ -61,7 +61,7 @@ held-none : (t : Bool) (b : List ℕ) → b ≡ pick t b b
 held-none true b = refl
 held-none false b = refl
 
-module _ (first second : List ℕ) (minimum : ℕ) (goal : Goal) (ws b : List ℕ) (c : Comparable first second minimum) (room : Room (length first) (length second) minimum goal (length ws) (length b)) (j : Job) (ws₁ : List ℕ) (o : Opened first second minimum goal ws j ws₁) where
+module _ (first second : List ℕ) (minimum : ℕ) (goal : Goal) (ws b : List ℕ) (c : Comparable first second minimum) (room : Room (length first) (length second) minimum goal (length ws) (length b)) (j : Job) (ws₁ : List ℕ) (o : Opened first second minimum ws j ws₁) where
   abbrev pattern : List ℕ
   pattern = patternOf first second
 
@@ -74,20 +74,20 @@ module _ (first second : List ℕ) (minimum : ℕ) (goal : Goal) (ws b : List �
   starts : state j ws₁ ≡ s₀
   starts = first-state first second minimum goal ws b c room j ws₁ o
 
-  nothing-laid : Laid j s₀ b ws₁ b (noTiles j)
+  nothing-laid : Laid j s₀ b ws₁ b (noTiles j goal)
   unfolding tileWords covered
   nothing-laid =
       record {
         tiles = [];
         rest = λ ls g. subst (λ u. Greedy best size lay (j .minimum) u ls) starts g;
-        going = λ ls. ap (λ (u : State). untilGoal j (unlaid (u .pattern)) ls) (sym starts);
-        held = held-none (j .goal .listed) b;
+        going = λ ls. ap (λ (u : State). untilGoal goal (j .minimum) (unlaid (u .pattern)) ls) (sym starts);
+        held = held-none (goal .listed) b;
         counted = refl;
         summed = refl;
       }
 
   -- ---- the end
-  module _ (ws₂ b' : List ℕ) (k : Totals) (f : Finished j (j .minimum) ws₁ b (noTiles j) ws₂ b' k) where
+  module _ (ws₂ b' : List ℕ) (k : Totals) (f : Finished j (j .minimum) ws₁ b (noTiles j goal) ws₂ b' k) where
     laid-here : Laid j s₀ b ws₂ b' k
     laid-here = f .onward .keeps s₀ b nothing-laid
 
@@ -101,8 +101,8 @@ module _ (first second : List ℕ) (minimum : ℕ) (goal : Goal) (ws b : List �
     least-is : j .minimum ≡ minimum
     least-is = ap (λ x. x .minimum) (o .job)
 
-    goal-of : j .goal ≡ goal
-    goal-of = ap (λ x. x .goal) (o .job)
+    goal-of : k .goal ≡ goal
+    goal-of = f .onward .aim
 
     straight-is : j .straight ≡ firstIsPattern first second
     straight-is = ap (λ x. x .straight) (o .job)
@@ -115,40 +115,40 @@ module _ (first second : List ℕ) (minimum : ℕ) (goal : Goal) (ws b : List �
         ∙ tiling-replaced minimum (start pattern (textOf first second))
 
     -- Short of the goal there is nothing; so nothing is laid before the goal.
-    none-later : atGoal j k ≡ false → later ≡ []
+    none-later : atGoal k ≡ false → later ≡ []
     none-later g = only later-greedy (done (f .short g))
 
-    none-before : untilGoal j (far j ws₂ k) later ≡ []
+    none-before : untilGoal (k .goal) (j .minimum) (far j ws₂ k) later ≡ []
     unfolding until
-    none-before = go (atGoal j k) refl
+    none-before = go (atGoal k) refl
       where
-        go : (t : Bool) → atGoal j k ≡ t → untilGoal j (far j ws₂ k) later ≡ []
-        go true e = until-stops onPattern size (stopped (j .goal) (j .minimum)) (far j ws₂ k) later (sym (goal-is j ws₂ b' k (f .fits)) ∙ e)
-        go false e = ap (untilGoal j (far j ws₂ k)) (none-later e)
+        go : (t : Bool) → atGoal k ≡ t → untilGoal (k .goal) (j .minimum) (far j ws₂ k) later ≡ []
+        go true e = until-stops onPattern size (stopped (k .goal) (j .minimum)) (far j ws₂ k) later (sym (goal-is j ws₂ b' k (f .fits)) ∙ e)
+        go false e = ap (untilGoal (k .goal) (j .minimum) (far j ws₂ k)) (none-later e)
 
     -- The tiles laid are the first of the tiling, until the goal; and, as they are listed, of the listing.
-    until-here : untilGoal j (unlaid (map replaced pattern)) all ≡ laid-here .tiles
+    until-here : untilGoal (k .goal) (j .minimum) (unlaid (map replaced pattern)) all ≡ laid-here .tiles
     until-here =
-        ap (untilGoal j (unlaid (map replaced pattern))) (sym together)
+        ap (untilGoal (k .goal) (j .minimum) (unlaid (map replaced pattern))) (sym together)
         ∙ (laid-here .going later ∙ (ap (λ ks. laid-here .tiles ++ ks) none-before ∙ append-nil (laid-here .tiles)))
 
     first-tiles : until onPattern size (stopped goal minimum) (unlaid pattern) all ≡ laid-here .tiles
     first-tiles =
         sym (until-replaced onPattern size (stopped goal minimum) (replaced-stop goal minimum) 0 pattern all)
         ∙ (ap (λ g. until onPattern size (stopped g minimum) (unlaid (map replaced pattern)) all) (sym goal-of)
-        ∙ (ap (λ n. until onPattern size (stopped (j .goal) n) (unlaid (map replaced pattern)) all) (sym least-is) ∙ until-here))
+        ∙ (ap (λ n. until onPattern size (stopped (k .goal) n) (unlaid (map replaced pattern)) all) (sym least-is) ∙ until-here))
 
     first-listed : firstListed (stopped goal minimum) first second minimum ≡ map (listed (j .straight)) (laid-here .tiles)
     first-listed =
         first-listed-is (stopped goal minimum) first second minimum
         ∙ (ap (map (listed (firstIsPattern first second))) first-tiles ∙ ap (λ x. map (listed x) (laid-here .tiles)) (sym straight-is))
 
-    all-listed : atGoal j k ≡ false → map (listed (j .straight)) (laid-here .tiles) ≡ listing first second minimum
+    all-listed : atGoal k ≡ false → map (listed (j .straight)) (laid-here .tiles) ≡ listing first second minimum
     all-listed g =
         let e : laid-here .tiles ≡ all = sym (append-nil (laid-here .tiles)) ∙ (ap (λ ks. laid-here .tiles ++ ks) (sym (none-later g)) ∙ together) in
         ap (map (listed (j .straight))) e ∙ (ap (λ x. map (listed x) all) straight-is ∙ sym (listing-is first second minimum))
 
-    at-goal-is : atGoal j k ≡ stopsAt goal (k .covered) (k .fillable)
+    at-goal-is : atGoal k ≡ stopsAt goal (k .covered) (k .fillable)
     unfolding atGoal
     at-goal-is = ap (λ g. stopsAt g (k .covered) (k .fillable)) goal-of
 
@@ -172,7 +172,7 @@ module _ (first second : List ℕ) (minimum : ℕ) (goal : Goal) (ws b : List �
         }
 
 -- The same where the first record was computed.
-module _ (first second : List ℕ) (minimum : ℕ) (goal : Goal) (ws b : List ℕ) (c : Comparable first second minimum) (room : Room (length first) (length second) minimum goal (length ws) (length b)) (j : Job) (ws₁ : List ℕ) (o : Opened first second minimum goal ws j ws₁) (k₀ : Totals) (none : k₀ ≡ noTiles j) where
+module _ (first second : List ℕ) (minimum : ℕ) (goal : Goal) (ws b : List ℕ) (c : Comparable first second minimum) (room : Room (length first) (length second) minimum goal (length ws) (length b)) (j : Job) (ws₁ : List ℕ) (o : Opened first second minimum ws j ws₁) (k₀ : Totals) (none : k₀ ≡ noTiles j goal) where
   pub begun : length ws₁ ≡ length ws → Fits j ws₁ b k₀
   begun same = rw none (opened-fits first second minimum goal ws b c room j ws₁ o same)
 

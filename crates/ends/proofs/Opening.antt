@@ -25,7 +25,7 @@ use Rattle.tile.specs.Listed.{listed}
 use Rattle.bounds.specs.Workspace.{state}
 use Rattle.stretch.proofs.Fillable.{fillable-all}
 use Rattle.sweep.specs.Progress.{Fits}
-use Rattle.bounds.specs.declared.Goal.{Goal}
+use Rattle.sweep.specs.declared.Goal.{Goal}
 use Rattle.bounds.specs.declared.Job.{Job}
 use Rattle.ends.specs.Ends.{Opened, noTiles}
 use Rattle.ends.specs.Result.{Room}
@@ -50,14 +50,14 @@ pub copied-whole : (words b₀ b : List ℕ) (i : ℕ) → Copied (map replaced 
 copied-whole words b₀ b i r h = copied-all (map replaced words) b₀ b i r (rw (length-map words replaced) h)
 
 -- ---- which sequence is the pattern
-module _ (first second : List ℕ) (minimum : ℕ) (goal : Goal) (b : Bool) (e : b ≡ firstIsPattern first second) (ws ws' : List ℕ) where
-  pub opened-first : b ≡ true → ws' ≡ onto (map replaced first ++ map replaced second) ws → Opened first second minimum goal ws (record { n = length first; m = length second; minimum = minimum; straight = true; goal = goal }) ws'
+module _ (first second : List ℕ) (minimum : ℕ) (b : Bool) (e : b ≡ firstIsPattern first second) (ws ws' : List ℕ) where
+  pub opened-first : b ≡ true → ws' ≡ onto (map replaced first ++ map replaced second) ws → Opened first second minimum ws (record { n = length first; m = length second; minimum = minimum; straight = true }) ws'
   unfolding patternOf textOf
   opened-first k c =
       let is : firstIsPattern first second ≡ true = sym e ∙ k in
       record { job = rw (patternOf, textOf, is) refl; copied = rw (patternOf, textOf, is) c }
 
-  pub opened-second : b ≡ false → ws' ≡ onto (map replaced second ++ map replaced first) ws → Opened first second minimum goal ws (record { n = length second; m = length first; minimum = minimum; straight = false; goal = goal }) ws'
+  pub opened-second : b ≡ false → ws' ≡ onto (map replaced second ++ map replaced first) ws → Opened first second minimum ws (record { n = length second; m = length first; minimum = minimum; straight = false }) ws'
   unfolding patternOf textOf
   opened-second k c =
       let is : firstIsPattern first second ≡ false = sym e ∙ k in
@@ -128,7 +128,7 @@ module _ (first second : List ℕ) (minimum : ℕ) (goal : Goal) (ws b : List �
       fillable-replaced minimum pattern
       ∙ fillable-all minimum pattern (sound-not-zero pattern (pattern-sound first second (c .first-sound) (c .second-sound)))
 
-  module _ (j : Job) (ws₁ : List ℕ) (o : Opened first second minimum goal ws j ws₁) where
+  module _ (j : Job) (ws₁ : List ℕ) (o : Opened first second minimum ws j ws₁) where
     -- The comparison starts from the replaced words.
     pub first-state : state j ws₁ ≡ replacedIn (start pattern text)
     first-state =
@@ -139,7 +139,7 @@ module _ (first second : List ℕ) (minimum : ℕ) (goal : Goal) (ws b : List �
         ws
 
     -- Nothing is laid, so everything fits.
-    pub opened-fits : length ws₁ ≡ length ws → Fits j ws₁ b (noTiles j)
+    pub opened-fits : length ws₁ ≡ length ws → Fits j ws₁ b (noTiles j goal)
     opened-fits same =
         let l = chosen-lengths first second in
         let current : AllCurrent (state j ws₁) = subst AllCurrent (sym first-state) (current-start pattern text) in
@@ -157,5 +157,5 @@ module _ (first second : List ℕ) (minimum : ℕ) (goal : Goal) (ws b : List �
         })
 
 -- The record of a comparison that was just opened.
-pub unlaid-is : (j : Job) (n : ℕ) → n ≡ ifLong (j .minimum) (j .n) → record { count = 0; covered = 0; fillable = n } ≡ noTiles j
-unlaid-is j n e = ap (λ x. record { count = 0; covered = 0; fillable = x }) e
+pub unlaid-is : (j : Job) (goal : Goal) (n : ℕ) → n ≡ ifLong (j .minimum) (j .n) → record { count = 0; covered = 0; fillable = n; goal = goal } ≡ noTiles j goal
+unlaid-is j goal n e = ap (λ x. record { count = 0; covered = 0; fillable = x; goal = goal }) e

@@ -10,7 +10,7 @@ use Rattle.tiling.specs.Choice.{firstIsPattern, patternOf, textOf}
 use Rattle.tiling.specs.Stretch.{ifLong}
 use Rattle.tiling.specs.Listing.{score}
 use Rattle.tiling.specs.declared.Compared.{Compared}
-use Rattle.bounds.specs.declared.Goal.{Goal}
+use Rattle.sweep.specs.declared.Goal.{Goal}
 use Rattle.bounds.specs.declared.Job.{Job}
 use Rattle.sweep.specs.declared.Totals.{Totals}
 
@@ -18,25 +18,24 @@ use Rattle.sweep.specs.declared.Totals.{Totals}
 abbrev pub wholeGoal : Goal
 wholeGoal = record { listed = true; enough = 2049; needed = 0 }
 
--- The job of two sequences at a minimum, with a goal.
-abbrev pub jobOf : List ℕ → List ℕ → ℕ → Goal → Job
-jobOf first second minimum goal =
+-- The job of two sequences at a minimum.
+abbrev pub jobOf : List ℕ → List ℕ → ℕ → Job
+jobOf first second minimum =
     record {
       n = length (patternOf first second);
       m = length (textOf first second);
       minimum = minimum;
       straight = firstIsPattern first second;
-      goal = goal;
     }
 
 -- A comparison was opened: its job, and the workspace, which begins with the replaced words of pattern and text.
-pub record Opened (first second : List ℕ) (minimum : ℕ) (goal : Goal) (ws : List ℕ) (j : Job) (ws' : List ℕ) : Type 0 where
-  pub job : j ≡ jobOf first second minimum goal
+pub record Opened (first second : List ℕ) (minimum : ℕ) (ws : List ℕ) (j : Job) (ws' : List ℕ) : Type 0 where
+  pub job : j ≡ jobOf first second minimum
   pub copied : ws' ≡ onto (map replaced (patternOf first second) ++ map replaced (textOf first second)) ws
 
 -- Nothing is laid yet, and all words are free.
-abbrev pub noTiles : Job → Totals
-noTiles j = record { count = 0; covered = 0; fillable = ifLong (j .minimum) (j .n) }
+abbrev pub noTiles : Job → Goal → Totals
+noTiles j goal = record { count = 0; covered = 0; fillable = ifLong (j .minimum) (j .n); goal = goal }
 
 -- The answer of a refusal, and that of tiles that were laid.
 abbrev pub refusedBy : ℕ → Compared

@@ -9,7 +9,7 @@ use Rattle.tiling.specs.Listing.{Entry, listing, tileWords, covered}
 use Rattle.tiling.specs.Until.{firstListed}
 use Rattle.sweep.specs.Goal.{stopsAt, stopped}
 use Rattle.sweep.specs.Settled.{pick}
-use Rattle.bounds.specs.declared.Goal.{Goal}
+use Rattle.sweep.specs.declared.Goal.{Goal}
 use Rattle.sweep.specs.declared.Totals.{Totals}
 
 -- Room for a comparison with a goal: a workspace, and a tile buffer where tiles are listed. Of all buffers only the lengths count.

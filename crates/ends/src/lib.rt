@@ -1,7 +1,7 @@
 // The two ends of a comparison, the same for both engines. Before it the pattern is chosen, and both sequences are copied to the
 // workspace; after it the workspace is cleared and the answer made. What lies between goes from one state of the workspace to
 // another and knows nothing of either.
-use bounds::Goal;
+use sweep::Goal;
 use bounds::Job;
 use sweep::Totals;
 use tiling::Compared;
@@ -73,9 +73,9 @@ pub fn whole() -> Goal
 }
 
 // Chooses the pattern, by the words as handed in, and puts pattern and text to the start of the workspace.
-pub fn open(first: &[u32], second: &[u32], minimum: usize, goal: Goal, ws: &mut [u32]) -> Job
+pub fn open(first: &[u32], second: &[u32], minimum: usize, ws: &mut [u32]) -> Job
     requires { ⌜ length (now first) + length (now second) ≤ length (now ws) ⌝ }
-    ensures { λ r. ⌜ Opened (now (first .entry)) (now (second .entry)) minimum goal (now (ws .entry)) r (now (ws .exit)) ⌝ }
+    ensures { λ r. ⌜ Opened (now (first .entry)) (now (second .entry)) minimum (now (ws .entry)) r (now (ws .exit)) ⌝ }
 {
     if first_is_pattern(first, second) {
         copy_in(first, second, ws);
@@ -84,7 +84,6 @@ pub fn open(first: &[u32], second: &[u32], minimum: usize, goal: Goal, ws: &mut 
             m: second.len(),
             minimum,
             straight: true,
-            goal,
         };
     }
     copy_in(second, first, ws);
@@ -93,18 +92,18 @@ pub fn open(first: &[u32], second: &[u32], minimum: usize, goal: Goal, ws: &mut 
         m: first.len(),
         minimum,
         straight: false,
-        goal,
     }
 }
 
-// The record of a comparison that was just opened: nothing is laid, and all words of the pattern are free.
-pub fn unlaid(job: Job) -> Totals
-    ensures { λ r. ⌜ r ≡ noTiles job ⌝ }
+// The record of a comparison with a goal that was just opened: nothing is laid, and all words of the pattern are free.
+pub fn unlaid(job: Job, goal: Goal) -> Totals
+    ensures { λ r. ⌜ r ≡ noTiles job goal ⌝ }
 {
     Totals {
         count: 0,
         covered: 0,
         fillable: stretch::if_long(job.n, job.minimum),
+        goal,
     }
 }
 

@@ -115,7 +115,7 @@ pub lowering-none : (x : Pass) (heads ws b : List ℕ) (k : Totals) (bs : List �
 lowering-none x heads ws b k bs level r c index ranges g = record { levels = level-none (x .job) (x .s) ws b k bs level (ranges .enough) r c g; indexed = index; ranges = ranges }
 
 module _ (x : Pass) (heads ws₀ b₀ : List ℕ) (k₀ : Totals) (ws b : List ℕ) (k : Totals) (bs : List ℕ) (level : ℕ) (i : Lowering x heads ws₀ b₀ k₀ ws b k bs level) where
-  pub lowering-sweep : x .s ≤ level → atGoal (x .job) k ≡ false → Sweeping (x .job) level 0 ws b k
+  pub lowering-sweep : x .s ≤ level → atGoal k ≡ false → Sweeping (x .job) level 0 ws b k
   lowering-sweep = level-sweep (x .job) (x .s) ws₀ b₀ k₀ ws b k bs level (i .levels)
 
   pub lowering-more : (ws' b' : List ℕ) (k' : Totals) (bs' : List ℕ) → Over (x .job) level ws' b' k' → Covering (x .job) ws' bs' → (top next : ℕ) → Greatest (λ c. getD bs' c 0) 64 top → next ≡ min (level - 1) top → Onward (x .job) ws b k ws' b' k' → Indexed x ws' heads → length ws' ≡ length ws → length b' ≡ length b → Lowering x heads ws₀ b₀ k₀ ws' b' k' bs' next
@@ -132,5 +132,5 @@ module _ (x : Pass) (heads ws₀ b₀ : List ℕ) (k₀ : Totals) (ws b : List �
   pub lowering-done : level < x .s → Finished (x .job) (x .s) ws₀ b₀ k₀ ws b k
   lowering-done h = level-done (x .job) (x .s) ws₀ b₀ k₀ ws b k bs level (i .levels) h
 
-  pub lowering-goal : (r : Bool) → r ≡ atGoal (x .job) k → r ≡ true → Finished (x .job) (x .s) ws₀ b₀ k₀ ws b k
+  pub lowering-goal : (r : Bool) → r ≡ atGoal k → r ≡ true → Finished (x .job) (x .s) ws₀ b₀ k₀ ws b k
   lowering-goal = level-goal (x .job) (x .s) ws₀ b₀ k₀ ws b k bs level (i .levels)

@@ -28,7 +28,7 @@ fn visit(
     tiles: &mut [u32],
     totals: Totals,
 ) -> Totals
-    requires { ⌜ Sweeping (pass .job) (bound (pass .job) (now ws) (p .0)) (p .0) (now ws) (now tiles) totals × (atGoal (pass .job) totals ≡ false) × Indexed pass (now ws) (now heads) × Ranges pass × (pass .s ≤ bound (pass .job) (now ws) (p .0)) × (p .0 < pass .job .n) ⌝ }
+    requires { ⌜ Sweeping (pass .job) (bound (pass .job) (now ws) (p .0)) (p .0) (now ws) (now tiles) totals × (atGoal totals ≡ false) × Indexed pass (now ws) (now heads) × Ranges pass × (pass .s ≤ bound (pass .job) (now ws) (p .0)) × (p .0 < pass .job .n) ⌝ }
     ensures { λ r. ⌜ Sweeping (pass .job) (bound (pass .job) (now (ws .entry)) (p .0)) (p .0 + 1) (now (ws .exit)) (now (tiles .exit)) r ⌝ }
     ensures { λ r. ⌜ Onward (pass .job) (now (ws .entry)) (now (tiles .entry)) totals (now (ws .exit)) (now (tiles .exit)) r ⌝ }
     ensures { λ r. ⌜ Falling (pass .job) (now (ws .entry)) (now (ws .exit)) ⌝ }
@@ -49,7 +49,7 @@ fn step(
     tiles: &mut [u32],
     turn: Turn,
 ) -> Totals
-    requires { ⌜ Sweeping (pass .job) (bound (pass .job) (now ws) (turn .p .0)) (turn .p .0) (now ws) (now tiles) (turn .totals) × (atGoal (pass .job) (turn .totals) ≡ false) × Covering (pass .job) (now ws) (now blocks) × Indexed pass (now ws) (now heads) × Ranges pass × (pass .s ≤ bound (pass .job) (now ws) (turn .p .0)) × (turn .p .0 < pass .job .n) ⌝ }
+    requires { ⌜ Sweeping (pass .job) (bound (pass .job) (now ws) (turn .p .0)) (turn .p .0) (now ws) (now tiles) (turn .totals) × (atGoal (turn .totals) ≡ false) × Covering (pass .job) (now ws) (now blocks) × Indexed pass (now ws) (now heads) × Ranges pass × (pass .s ≤ bound (pass .job) (now ws) (turn .p .0)) × (turn .p .0 < pass .job .n) ⌝ }
     ensures { λ r. ⌜ Sweeping (pass .job) (bound (pass .job) (now (ws .entry)) (turn .p .0)) (turn .p .0 + 1) (now (ws .exit)) (now (tiles .exit)) r ⌝ }
     ensures { λ r. ⌜ Onward (pass .job) (now (ws .entry)) (now (tiles .entry)) (turn .totals) (now (ws .exit)) (now (tiles .exit)) r ⌝ }
     ensures { λ r. ⌜ Covering (pass .job) (now (ws .exit)) (now (blocks .exit)) ⌝ }
@@ -81,7 +81,7 @@ fn sweep_rows(
     let level = round.level;
     let mut sum = round.totals;
     let mut p = bounds::next_row(ws, pass.job, blocks, level, PatternAt(0));
-    while p.0 < pass.job.n && !sweep::at_goal(pass.job, sum) {
+    while p.0 < pass.job.n && !sweep::at_goal(sum) {
         let turn = Turn { p, totals: sum };
         sum = step(ws, pass, heads, last, blocks, tiles, turn);
         p = bounds::next_row(ws, pass.job, blocks, level, PatternAt(p.0 + 1));
@@ -104,7 +104,7 @@ pub fn lay_levels(
 {
     let mut sum = totals;
     let mut level = bounds::top(blocks);
-    while pass.s <= level && !sweep::at_goal(pass.job, sum) {
+    while pass.s <= level && !sweep::at_goal(sum) {
         let round = Round { level, totals: sum };
         sum = sweep_rows(ws, pass, heads, last, blocks, tiles, round);
         level = buffer::lesser(level - 1, bounds::top(blocks));

@@ -46,12 +46,12 @@ pub record Resting (x : Pass) (ws₀ b₀ : List ℕ) (k₀ : Totals) (ws b : Li
   pub fits : Fits (y .job) ws b k
   pub onward : Onward (y .job) ws₀ b₀ k₀ ws b k
   pub ranges : Ranges y
-  pub short : atGoal (y .job) k ≡ false → best (state (y .job) ws) .len < y .s
+  pub short : atGoal k ≡ false → best (state (y .job) ws) .len < y .s
   pub stretched : stretch ≡ left (state (y .job) ws .pattern) (y .job .minimum) (y .s)
   pub same-room : length ws ≡ length ws₀
   pub same-tiles : length b ≡ length b₀
 
-pub resting-none : (x : Pass) (ws b : List ℕ) (k : Totals) (r : ℕ) → Fits (x .job) ws b k → Ranges x → (atGoal (x .job) k ≡ false → best (state (x .job) ws) .len < x .s) → r ≡ left (state (x .job) ws .pattern) (x .job .minimum) (x .s) → Resting x ws b k ws b k x r
+pub resting-none : (x : Pass) (ws b : List ℕ) (k : Totals) (r : ℕ) → Fits (x .job) ws b k → Ranges x → (atGoal k ≡ false → best (state (x .job) ws) .len < x .s) → r ≡ left (state (x .job) ws .pattern) (x .job .minimum) (x .s) → Resting x ws b k ws b k x r
 resting-none x ws b k r f ranges h t =
     record {
       job = refl;
@@ -115,20 +115,20 @@ module _ (x : Pass) (ws₀ b₀ : List ℕ) (k₀ : Totals) (ws b : List ℕ) (k
   pub resting-done : r < y .job .minimum → Finished (x .job) (x .job .minimum) ws₀ b₀ k₀ ws b k
   resting-done h = rw (← i .job) (record { fits = i .fits; onward = i .onward; short = λ g. go g (decLt (y .job .minimum) (y .s)) })
     where
-      go : atGoal (y .job) k ≡ false → Dec (y .job .minimum < y .s) → best (state (y .job) ws) .len < y .job .minimum
+      go : atGoal k ≡ false → Dec (y .job .minimum < y .s) → best (state (y .job) ws) .len < y .job .minimum
       go g (yes l) =
           let u = state (y .job) ws in
           omega (arith, best-is u .long, run-longest (u .pattern) (best u .p) (drop (best u .t) (u .text)), left-all (u .pattern) (y .job .minimum) (y .s) r (i .stretched) l)
       go g (no l) = omega (arith, i .short g, l)
 
   -- Or the goal is reached.
-  pub resting-goal : (t : Bool) → t ≡ atGoal (y .job) k → t ≡ true → Finished (x .job) (x .job .minimum) ws₀ b₀ k₀ ws b k
-  resting-goal t e is = rw (← i .job) (record { fits = i .fits; onward = i .onward; short = λ g. absurd (at-goal-no t (atGoal (y .job) k) e is g) })
+  pub resting-goal : (t : Bool) → t ≡ atGoal k → t ≡ true → Finished (x .job) (x .job .minimum) ws₀ b₀ k₀ ws b k
+  resting-goal t e is = rw (← i .job) (record { fits = i .fits; onward = i .onward; short = λ g. absurd (at-goal-no t (atGoal k) e is g) })
 
 -- ---- the first pass and the later ones
 -- Where the goal is reached at once, nothing is to be done.
-pub goal-at-once : (x : Pass) (ws b : List ℕ) (k : Totals) → Fits (x .job) ws b k → (t : Bool) → t ≡ atGoal (x .job) k → t ≡ true → Finished (x .job) (x .job .minimum) ws b k ws b k
-goal-at-once x ws b k f t e is = record { fits = f; onward = onward-none (x .job) ws b k; short = λ g. absurd (at-goal-no t (atGoal (x .job) k) e is g) }
+pub goal-at-once : (x : Pass) (ws b : List ℕ) (k : Totals) → Fits (x .job) ws b k → (t : Bool) → t ≡ atGoal k → t ≡ true → Finished (x .job) (x .job .minimum) ws b k ws b k
+goal-at-once x ws b k f t e is = record { fits = f; onward = onward-none (x .job) ws b k; short = λ g. absurd (at-goal-no t (atGoal k) e is g) }
 
 module _ (x : Pass) (ws : List ℕ) (s : ℕ) (ranges : Ranges x) (e : s ≡ firstLength (state (x .job) ws .pattern) (x .multiplier) (x .job .minimum) (x .s)) (y : Pass) (at : y ≡ atLength x s) where
   pub first-ranges : (b : List ℕ) (k : Totals) → Fits (x .job) ws b k → Ranges y

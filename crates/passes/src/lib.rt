@@ -63,13 +63,13 @@ fn one_pass(ws: &mut [u32], pass: Pass, tiles: &mut [u32], totals: Totals) -> To
 // The passes after the one given, which is over, down to the minimum, as long as the pattern has a stretch that could be a tile, until
 // the goal.
 fn later_passes(ws: &mut [u32], pass: Pass, tiles: &mut [u32], totals: Totals) -> Totals
-    requires { ⌜ Fits (pass .job) (now ws) (now tiles) totals × Ranges pass × (atGoal (pass .job) totals ≡ false → best (state (pass .job) (now ws)) .len < pass .s) ⌝ }
+    requires { ⌜ Fits (pass .job) (now ws) (now tiles) totals × Ranges pass × (atGoal totals ≡ false → best (state (pass .job) (now ws)) .len < pass .s) ⌝ }
     ensures { λ r. ⌜ Finished (pass .job) (pass .job .minimum) (now (ws .entry)) (now (tiles .entry)) totals (now (ws .exit)) (now (tiles .exit)) r ⌝ }
 {
     let mut sum = totals;
     let mut now = pass;
     let mut stretch = lengths::left_of(ws, pass);
-    while now.job.minimum <= stretch && !sweep::at_goal(now.job, sum) {
+    while now.job.minimum <= stretch && !sweep::at_goal(sum) {
         let s = lengths::next_length(now, stretch, sum.covered);
         now = at_length(now, s);
         sum = one_pass(ws, now, tiles, sum);
@@ -85,7 +85,7 @@ pub fn tile_all(ws: &mut [u32], pass: Pass, tiles: &mut [u32], totals: Totals) -
     requires { ⌜ Fits (pass .job) (now ws) (now tiles) totals × Ranges pass ⌝ }
     ensures { λ r. ⌜ Finished (pass .job) (pass .job .minimum) (now (ws .entry)) (now (tiles .entry)) totals (now (ws .exit)) (now (tiles .exit)) r ⌝ }
 {
-    if sweep::at_goal(pass.job, totals) {
+    if sweep::at_goal(totals) {
         return totals;
     }
     let first = at_length(pass, lengths::first_length(ws, pass));

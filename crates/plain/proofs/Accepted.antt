@@ -6,7 +6,7 @@ use mathlib.Core.List.{List}
 use lib.ListN.{length}
 use Rattle.tiling.specs.Comparing.{plainRefusal, Comparable, Roomy}
 use Rattle.tiling.proofs.Comparing.{comparable, plain-roomy}
-use Rattle.bounds.specs.declared.Goal.{Goal}
+use Rattle.sweep.specs.declared.Goal.{Goal}
 use Rattle.ends.specs.Ends.{wholeGoal}
 use Rattle.ends.specs.Result.{Room}
 use Rattle.ends.proofs.Closing.{whole-room}

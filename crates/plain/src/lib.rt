@@ -1,6 +1,6 @@
 // The plain engine: any pair of positions may be looked at, and no hash.
 use sweep::Found;
-use bounds::Goal;
+use sweep::Goal;
 use bounds::Job;
 use sweep::Round;
 use sweep::Totals;
@@ -198,7 +198,7 @@ fn visit(
     tiles: &mut [u32],
     totals: Totals,
 ) -> Totals
-    requires { ⌜ Sweeping job (bound job (now ws) (p .0)) (p .0) (now ws) (now tiles) totals × (atGoal job totals ≡ false) × (p .0 < job .n) ⌝ }
+    requires { ⌜ Sweeping job (bound job (now ws) (p .0)) (p .0) (now ws) (now tiles) totals × (atGoal totals ≡ false) × (p .0 < job .n) ⌝ }
     ensures { λ r. ⌜ Sweeping job (bound job (now (ws .entry)) (p .0)) (p .0 + 1) (now (ws .exit)) (now (tiles .exit)) r ⌝ }
     ensures { λ r. ⌜ Onward job (now (ws .entry)) (now (tiles .entry)) totals (now (ws .exit)) (now (tiles .exit)) r ⌝ }
     ensures { λ r. ⌜ Falling job (now (ws .entry)) (now (ws .exit)) ⌝ }
@@ -218,7 +218,7 @@ fn step(
     tiles: &mut [u32],
     totals: Totals,
 ) -> Totals
-    requires { ⌜ Sweeping job (bound job (now ws) (p .0)) (p .0) (now ws) (now tiles) totals × (atGoal job totals ≡ false) × Covering job (now ws) (now blocks) × (p .0 < job .n) ⌝ }
+    requires { ⌜ Sweeping job (bound job (now ws) (p .0)) (p .0) (now ws) (now tiles) totals × (atGoal totals ≡ false) × Covering job (now ws) (now blocks) × (p .0 < job .n) ⌝ }
     ensures { λ r. ⌜ Sweeping job (bound job (now (ws .entry)) (p .0)) (p .0 + 1) (now (ws .exit)) (now (tiles .exit)) r ⌝ }
     ensures { λ r. ⌜ Onward job (now (ws .entry)) (now (tiles .entry)) totals (now (ws .exit)) (now (tiles .exit)) r ⌝ }
     ensures { λ r. ⌜ Covering job (now (ws .exit)) (now (blocks .exit)) ⌝ }
@@ -247,7 +247,7 @@ fn sweep_rows(
     let level = round.level;
     let mut sum = round.totals;
     let mut p = bounds::next_row(ws, job, blocks, level, PatternAt(0));
-    while p.0 < job.n && !sweep::at_goal(job, sum) {
+    while p.0 < job.n && !sweep::at_goal(sum) {
         sum = step(ws, job, last, blocks, p, tiles, sum);
         p = bounds::next_row(ws, job, blocks, level, PatternAt(p.0 + 1));
     }
@@ -268,7 +268,7 @@ fn lay_all(
 {
     let mut sum = totals;
     let mut level = bounds::top(blocks);
-    while job.minimum <= level && !sweep::at_goal(job, sum) {
+    while job.minimum <= level && !sweep::at_goal(sum) {
         let round = Round { level, totals: sum };
         sum = sweep_rows(ws, job, last, blocks, tiles, round);
         level = buffer::lesser(level - 1, bounds::top(blocks));
@@ -310,8 +310,8 @@ fn lay(
     requires { ⌜ Room (length (now first)) (length (now second)) minimum goal (length (now workspace)) (length (now tiles)) ⌝ }
     ensures { λ r. ⌜ Ran (now (first .entry)) (now (second .entry)) minimum goal (now (tiles .entry)) (now (tiles .exit)) r ⌝ }
 {
-    let job = ends::open(first, second, minimum as usize, goal, workspace);
-    tile_all(workspace, job, tiles, ends::unlaid(job))
+    let job = ends::open(first, second, minimum as usize, workspace);
+    tile_all(workspace, job, tiles, ends::unlaid(job, goal))
 }
 
 // Why a comparison is refused; 0 where it is not.

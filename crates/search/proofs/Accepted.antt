@@ -10,7 +10,7 @@ use Rattle.tiling.specs.Comparing.{fastRefusal, Comparable, InRange, Roomy}
 use Rattle.tiling.specs.Answer.{Compares}
 use Rattle.tiling.specs.declared.Compared.{Compared}
 use Rattle.tiling.proofs.Comparing.{comparable, fast-roomy, search-in-range}
-use Rattle.bounds.specs.declared.Goal.{Goal}
+use Rattle.sweep.specs.declared.Goal.{Goal}
 use Rattle.bounds.specs.declared.Job.{Job}
 use Rattle.sweep.specs.declared.Totals.{Totals}
 use Rattle.ends.specs.Ends.{wholeGoal, Opened, Closed}
@@ -19,8 +19,8 @@ use Rattle.ends.proofs.Closing.{compare-accepted}
 use Rattle.index.specs.Indexed.{Ranges}
 
 -- The first pass.
-pub first-pass : (first second : List ℕ) (minimum : ℕ) (goal : Goal) (ws : List ℕ) (buckets start : ℕ) → Comparable first second minimum → InRange minimum buckets start → (j : Job) (ws₁ : List ℕ) → Opened first second minimum goal ws j ws₁ → (multiplier : ℕ) → Ranges (record { job = j; s = start; multiplier = multiplier; buckets = buckets })
-first-pass first second minimum goal ws buckets start can set j ws₁ o multiplier =
+pub first-pass : (first second : List ℕ) (minimum : ℕ) (ws : List ℕ) (buckets start : ℕ) → Comparable first second minimum → InRange minimum buckets start → (j : Job) (ws₁ : List ℕ) → Opened first second minimum ws j ws₁ → (multiplier : ℕ) → Ranges (record { job = j; s = start; multiplier = multiplier; buckets = buckets })
+first-pass first second minimum ws buckets start can set j ws₁ o multiplier =
     let least : j .minimum ≡ minimum = ap (λ x. x .minimum) (o .job) in
     record {
       some-bucket = set .some-bucket;

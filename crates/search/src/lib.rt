@@ -1,6 +1,6 @@
 // The fast engine, Running Karp-Rabin: its settings, its checks, and its passes between the two ends of a comparison.
 use index::Pass;
-use bounds::Goal;
+use sweep::Goal;
 use sweep::Totals;
 use tiling::Compared;
 ghost use mathlib.Core.Path.{_≡_};
@@ -61,14 +61,14 @@ pub fn lay(
     requires { ⌜ Room (length (now first)) (length (now second)) minimum goal (length (now workspace)) (length (now tiles)) ⌝ }
     ensures { λ r. ⌜ Ran (now (first .entry)) (now (second .entry)) minimum goal (now (tiles .entry)) (now (tiles .exit)) r ⌝ }
 {
-    let job = ends::open(first, second, minimum as usize, goal, workspace);
+    let job = ends::open(first, second, minimum as usize, workspace);
     let pass = Pass {
         job,
         s: settings.start as usize,
         multiplier: settings.multiplier,
         buckets: settings.buckets as usize,
     };
-    passes::tile_all(workspace, pass, tiles, ends::unlaid(job))
+    passes::tile_all(workspace, pass, tiles, ends::unlaid(job, goal))
 }
 
 // Compares two sequences for which no cause of a refusal holds.

@@ -36,10 +36,10 @@ module _ (j : Job) (ws : List ℕ) (p len : ℕ) (k : Totals) (left : k .fillabl
   pub taken-within : x ≤ k .fillable
   taken-within = omega (arith, e, left)
 
-  pub totals-after : record { count = k .count + 1; covered = k .covered + len; fillable = k .fillable - x } ≡ laidTotals j p len ws k
+  pub totals-after : record { count = k .count + 1; covered = k .covered + len; fillable = k .fillable - x; goal = k .goal } ≡ laidTotals j p len ws k
   totals-after =
       let a : k .fillable - x ≡ fillable (j .minimum) (mark p len (state j ws .pattern)) = omega (arith, e, left) in
-      ap (λ n. record { count = k .count + 1; covered = k .covered + len; fillable = n }) a
+      ap (λ n. record { count = k .count + 1; covered = k .covered + len; fillable = n; goal = k .goal }) a
 
 -- Where tiles are listed there is room, and one is listed more.
 pub room-listed : (l : Bool) (n : ℕ) (b : List ℕ) → (l ≡ true → n ≤ length b) → l ≡ true → n ≤ length b
@@ -48,7 +48,10 @@ room-listed l n b h t = h t
 pub listed-one : (l : Bool) (b b' new : List ℕ) → l ≡ true → b' ≡ new → b' ≡ pick l new b
 listed-one l b b' new t e = rw t e
 
+pub listed-none : (l : Bool) (b new : List ℕ) → l ≡ false → b ≡ pick l new b
+listed-none l b new f = rw f refl
+
 -- The test of the goal, as the code asks it.
-pub goal-asked : (j : Job) (k : Totals) → leb (j .goal .enough) (k .covered) || ltb (k .covered + k .fillable) (j .goal .needed) ≡ atGoal j k
+pub goal-asked : (k : Totals) → leb (k .goal .enough) (k .covered) || ltb (k .covered + k .fillable) (k .goal .needed) ≡ atGoal k
 unfolding atGoal
-goal-asked j k = refl
+goal-asked k = refl

@@ -51,9 +51,9 @@ below-level j ws level p s b q t = go (decLt q (j .n))
     go (no h) = omega (arith, past-pattern (state j ws) q t (omega (arith, h, pattern-length j ws s)))
 
 -- The goal by the record is the goal by how far the comparison has come.
-pub goal-is : (j : Job) (ws b : List ℕ) (k : Totals) → Fits j ws b k → atGoal j k ≡ stopped (j .goal) (j .minimum) (far j ws k)
+pub goal-is : (j : Job) (ws b : List ℕ) (k : Totals) → Fits j ws b k → atGoal k ≡ stopped (k .goal) (j .minimum) (far j ws k)
 unfolding atGoal stopped
-goal-is j ws b k f = ap (λ n. stopsAt (j .goal) (k .covered) n) (f .left)
+goal-is j ws b k f = ap (λ n. stopsAt (k .goal) (k .covered) n) (f .left)
 
 module _ (j : Job) (level p : ℕ) (ws b : List ℕ) (k : Totals) (f : Found) (s : Sweeping j level p ws b k) (inside : p < j .n) (full-row : bound j ws p ≡ level) (r : Searched j ws level p f) where
   pub found-small : f .len ≤ 2048
@@ -116,11 +116,12 @@ module _ (j : Job) (level p : ℕ) (ws b : List ℕ) (k : Totals) (f : Found) (s
               record {
                 tiles = l .tiles;
                 rest = λ ls g. l .rest ls (rw (state-set j ws p (f .len)) at g);
-                going = λ ls. l .going ls ∙ ap (λ (u : State). l .tiles ++ untilGoal j (record { covered = k .covered; pattern = u .pattern }) ls) (sym (state-set j ws p (f .len)));
+                going = λ ls. l .going ls ∙ ap (λ (u : State). l .tiles ++ untilGoal (k .goal) (j .minimum) (record { covered = k .covered; pattern = u .pattern }) ls) (sym (state-set j ws p (f .len)));
                 held = l .held;
                 counted = l .counted;
                 summed = l .summed;
               };
+          aim = refl;
         }
 
     -- The same of a workspace that was made so.
@@ -179,7 +180,7 @@ module _ (j : Job) (level p : ℕ) (ws b : List ℕ) (k : Totals) (f : Found) (s
     each-after = omega (arith, add-mul (k .count) 1 (j .minimum), one-mul (j .minimum), s .fits .each, s .long)
 
     -- So there is room for one tile more.
-    pub tile-fits : j .goal .listed ≡ true → 3 * (k .count + 1) ≤ length b
+    pub tile-fits : k .goal .listed ≡ true → 3 * (k .count + 1) ≤ length b
     tile-fits t =
         let q : k .count + 1 ≤ j .n / j .minimum = le-div-iff-mul-le (s .fits .least) .1 (omega (arith, each-after, free-after)) in
         omega (arith, q, s .fits .tile-room t)
@@ -252,7 +253,7 @@ module _ (j : Job) (level p : ℕ) (ws b : List ℕ) (k : Totals) (f : Found) (s
         go (yes l) = omega (arith, bound-falls q, s .bounded .passed q l)
         go (no l) = omega (arith, bound-covered j ws p (f .t .0) level q (omega (arith, l)) (omega (arith, s .long, s .fits .least)), s .long, s .fits .least)
 
-    module _ (b' : List ℕ) (e : b' ≡ oneMore j (k .count) next b) where
+    module _ (b' : List ℕ) (e : b' ≡ oneMore j k next b) where
       abbrev k' : Totals
       k' = laidTotals j p level ws k
 
@@ -265,7 +266,7 @@ module _ (j : Job) (level p : ℕ) (ws b : List ℕ) (k : Totals) (f : Found) (s
                   space = space-laid j ws p (f .t .0) level in-pattern in-text (s .fits .space);
                   least = s .fits .least;
                   most = s .fits .most;
-                  tile-room = λ t. rw (same-room (j .goal .listed) refl) (s .fits .tile-room t);
+                  tile-room = λ t. rw (same-room (k .goal .listed) refl) (s .fits .tile-room t);
                   each = each-after;
                   free = free-after;
                   left = ap (λ (u : State). fillable (j .minimum) (u .pattern)) (sym after-state);
@@ -280,11 +281,11 @@ module _ (j : Job) (level p : ℕ) (ws b : List ℕ) (k : Totals) (f : Found) (s
             within = omega arith;
           }
         where
-          same-room : (t : Bool) → j .goal .listed ≡ t → length b' ≡ length b
+          same-room : (t : Bool) → k .goal .listed ≡ t → length b' ≡ length b
           same-room true t = rw (e, t) (length-listed (k .count) b (listed (j .straight) next) (tile-fits t))
           same-room false t = rw (e, t) refl
 
-      stepped-onward : atGoal j k ≡ false → Onward j ws b k (laid j p (f .t .0) level ws) b' k'
+      stepped-onward : atGoal k ≡ false → Onward j ws b k (laid j p (f .t .0) level ws) b' k'
       unfolding covered lay
       stepped-onward going =
           record {
@@ -292,11 +293,12 @@ module _ (j : Job) (level p : ℕ) (ws b : List ℕ) (k : Totals) (f : Found) (s
                 record {
                   tiles = l .tiles ++ (next ∷ []);
                   rest = λ ls g. rw (append-assoc (l .tiles) (next ∷ []) ls) (l .rest (next ∷ ls) (lay-next ls g));
-                  going = λ ls. rw (append-assoc (l .tiles) (next ∷ []) ls, append-assoc (l .tiles) (next ∷ []) (untilGoal j (far j (laid j p (f .t .0) level ws) k') ls)) (l .going (next ∷ ls) ∙ ap (λ xs. l .tiles ++ xs) (goes ls));
-                  held = held s₀ b₀ l (j .goal .listed) refl;
+                  going = λ ls. rw (append-assoc (l .tiles) (next ∷ []) ls, append-assoc (l .tiles) (next ∷ []) (untilGoal (k .goal) (j .minimum) (far j (laid j p (f .t .0) level ws) k') ls)) (l .going (next ∷ ls) ∙ ap (λ xs. l .tiles ++ xs) (goes ls));
+                  held = held s₀ b₀ l (k .goal .listed) refl;
                   counted = rw (length-append (l .tiles) (next ∷ []), l .counted) refl;
                   summed = rw (map-append (listed (j .straight)) (l .tiles) (next ∷ []), covered-append (map (listed (j .straight)) (l .tiles)) (listed (j .straight) next ∷ []), ← l .summed) (one-more (j .straight));
                 };
+            aim = refl;
           }
         where
           lay-next : (ls : List Tile) → Greedy best size lay (j .minimum) (state j (laid j p (f .t .0) level ws)) ls → Greedy best size lay (j .minimum) (state j ws) (next ∷ ls)
@@ -306,12 +308,12 @@ module _ (j : Job) (level p : ℕ) (ws b : List ℕ) (k : Totals) (f : Found) (s
               let m : j .minimum ≤ size (best (state j ws)) = omega (arith, ap size next-is, s .long) in
               subst (λ k. Greedy best size lay (j .minimum) (state j ws) (k ∷ ls)) next-is (more m h)
 
-          goes : (ls : List Tile) → untilGoal j (far j ws k) (next ∷ ls) ≡ next ∷ untilGoal j (far j (laid j p (f .t .0) level ws) k') ls
+          goes : (ls : List Tile) → untilGoal (k .goal) (j .minimum) (far j ws k) (next ∷ ls) ≡ next ∷ untilGoal (k .goal) (j .minimum) (far j (laid j p (f .t .0) level ws) k') ls
           goes ls =
-              until-goes onPattern size (stopped (j .goal) (j .minimum)) (far j ws k) next ls (sym (goal-is j ws b k (s .fits)) ∙ going)
-              ∙ ap (λ (u : State). next ∷ untilGoal j (record { covered = k .covered + level; pattern = u .pattern }) ls) (sym after-state)
+              until-goes onPattern size (stopped (k .goal) (j .minimum)) (far j ws k) next ls (sym (goal-is j ws b k (s .fits)) ∙ going)
+              ∙ ap (λ (u : State). next ∷ untilGoal (k .goal) (j .minimum) (record { covered = k .covered + level; pattern = u .pattern }) ls) (sym after-state)
 
-          held : (s₀ : State) (b₀ : List ℕ) (l : Laid j s₀ b₀ ws b k) (t : Bool) → j .goal .listed ≡ t → b' ≡ pick (j .goal .listed) (onto (tileWords (map (listed (j .straight)) (l .tiles ++ (next ∷ [])))) b₀) b₀
+          held : (s₀ : State) (b₀ : List ℕ) (l : Laid j s₀ b₀ ws b k) (t : Bool) → k .goal .listed ≡ t → b' ≡ pick (k .goal .listed) (onto (tileWords (map (listed (j .straight)) (l .tiles ++ (next ∷ [])))) b₀) b₀
           held s₀ b₀ l true t =
               let h : b ≡ onto (tileWords (map (listed (j .straight)) (l .tiles))) b₀ = rw t at (l .held) in
               e ∙ (rw (t, h, l .counted, map-append (listed (j .straight)) (l .tiles) (next ∷ []), ← length-map (l .tiles) (listed (j .straight))) (listed-more (map (listed (j .straight)) (l .tiles)) (listed (j .straight) next ∷ []) b₀))
@@ -330,5 +332,5 @@ module _ (j : Job) (level p : ℕ) (ws b : List ℕ) (k : Totals) (f : Found) (s
           pub stepped-sweep : Sweeping j level (p + 1) ws' b' sum
           stepped-sweep = rw (w, is) stepped
 
-          pub stepped-lays : atGoal j k ≡ false → Onward j ws b k ws' b' sum
+          pub stepped-lays : atGoal k ≡ false → Onward j ws b k ws' b' sum
           stepped-lays going = rw (w, is) (stepped-onward going)

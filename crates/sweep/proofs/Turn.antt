@@ -29,10 +29,10 @@ use Rattle.bounds.proofs.Workspace.{space-kept, pattern-length}
 use Rattle.stretch.proofs.Fillable.{fillable-most}
 
 pub onward-none : (j : Job) (ws b : List ℕ) (k : Totals) → Onward j ws b k ws b k
-onward-none j ws b k = record { keeps = λ s₀ b₀ l. l }
+onward-none j ws b k = record { keeps = λ s₀ b₀ l. l; aim = refl }
 
 pub onward-more : (j : Job) (ws₀ b₀ ws b ws' b' : List ℕ) (k₀ k k' : Totals) → Onward j ws₀ b₀ k₀ ws b k → Onward j ws b k ws' b' k' → Onward j ws₀ b₀ k₀ ws' b' k'
-onward-more j ws₀ b₀ ws b ws' b' k₀ k k' x y = record { keeps = λ s c l. y .keeps s c (x .keeps s c l) }
+onward-more j ws₀ b₀ ws b ws' b' k₀ k k' x y = record { keeps = λ s c l. y .keeps s c (x .keeps s c l); aim = y .aim ∙ x .aim }
 
 -- ---- where the sequences are as they were
 module _ (j : Job) (ws ws' b : List ℕ) (k : Totals) (same : state j ws' ≡ state j ws) where
@@ -56,11 +56,12 @@ module _ (j : Job) (ws ws' b : List ℕ) (k : Totals) (same : state j ws' ≡ st
             record {
               tiles = l .tiles;
               rest = λ ls g. l .rest ls (subst (λ u. Greedy best size lay (j .minimum) u ls) same g);
-              going = λ ls. l .going ls ∙ ap (λ (u : State). l .tiles ++ untilGoal j (record { covered = k .covered; pattern = u .pattern }) ls) (sym same);
+              going = λ ls. l .going ls ∙ ap (λ (u : State). l .tiles ++ untilGoal (k .goal) (j .minimum) (record { covered = k .covered; pattern = u .pattern }) ls) (sym same);
               held = l .held;
               counted = l .counted;
               summed = l .summed;
             };
+        aim = refl;
       }
 
   pub unmoved-finished : (n : ℕ) (ws₂ b₂ : List ℕ) (k₂ : Totals) → Finished j n ws' b k ws₂ b₂ k₂ → Finished j n ws b k ws₂ b₂ k₂
@@ -80,8 +81,8 @@ pub few-fillable : (j : Job) (ws b : List ℕ) (k : Totals) → Fits j ws b k �
 few-fillable j ws b k f = omega (arith, f .left, fillable-most (j .minimum) (state j ws .pattern), pattern-length j ws (f .space), f .space .short-pattern)
 
 -- The test as the code asks it.
-pub going-on : (j : Job) (k : Totals) (r : Bool) → r ≡ atGoal j k → r ≡ false → atGoal j k ≡ false
-going-on j k r e f = sym e ∙ f
+pub going-on : (k : Totals) (r : Bool) → r ≡ atGoal k → r ≡ false → atGoal k ≡ false
+going-on k r e f = sym e ∙ f
 
 -- A comparison that is at its goal is not on its way to it.
 pub at-goal-no : (r g : Bool) → r ≡ g → r ≡ true → g ≡ false → ⊥
@@ -137,15 +138,15 @@ module _ (j : Job) (level : ℕ) (ws₀ b₀ : List ℕ) (k₀ : Totals) (ws b :
   pub swept-all : j .n ≤ p → Over j level ws b k
   swept-all h = record { fits = s .sweeping .fits; upper = s .sweeping .bounded .upper; below = λ g q l. s .sweeping .bounded .passed q (omega arith) }
 
-  pub swept-goal : (r : Bool) → r ≡ atGoal j k → r ≡ true → Over j level ws b k
-  swept-goal r e t = record { fits = s .sweeping .fits; upper = s .sweeping .bounded .upper; below = λ g. absurd (at-goal-no r (atGoal j k) e t g) }
+  pub swept-goal : (r : Bool) → r ≡ atGoal k → r ≡ true → Over j level ws b k
+  swept-goal r e t = record { fits = s .sweeping .fits; upper = s .sweeping .bounded .upper; below = λ g. absurd (at-goal-no r (atGoal k) e t g) }
 
 -- ---- the levels, down to runs of n words
 pub record Level (j : Job) (n : ℕ) (ws₀ b₀ : List ℕ) (k₀ : Totals) (ws b : List ℕ) (k : Totals) (bs : List ℕ) (level : ℕ) : Type 0 where
   pub ready : Ready j ws b k
   pub enough : j .minimum ≤ n
   pub covering : Covering j ws bs
-  pub capped : atGoal j k ≡ false → (q : ℕ) → q < j .n → bound j ws q ≤ level
+  pub capped : atGoal k ≡ false → (q : ℕ) → q < j .n → bound j ws q ≤ level
   pub onward : Onward j ws₀ b₀ k₀ ws b k
   pub same-room : length ws ≡ length ws₀
   pub same-tiles : length b ≡ length b₀
@@ -158,14 +159,14 @@ level-none j n ws b k bs level h r c g =
     record { ready = r; enough = h; covering = c; capped = λ going. covering-top j ws bs level (r .fits .space) c g; onward = onward-none j ws b k; same-room = refl; same-tiles = refl }
 
 module _ (j : Job) (n : ℕ) (ws₀ b₀ : List ℕ) (k₀ : Totals) (ws b : List ℕ) (k : Totals) (bs : List ℕ) (level : ℕ) (l : Level j n ws₀ b₀ k₀ ws b k bs level) where
-  unswept : atGoal j k ≡ false → Bounded j ws level 0
+  unswept : atGoal k ≡ false → Bounded j ws level 0
   unswept going = record { upper = l .ready .upper; capped = l .capped going; passed = λ q m. absurd (not-suc-le-zero m) }
 
   -- A sweep can begin.
-  pub level-sweep : n ≤ level → atGoal j k ≡ false → Sweeping j level 0 ws b k
+  pub level-sweep : n ≤ level → atGoal k ≡ false → Sweeping j level 0 ws b k
   level-sweep h going = record { fits = l .ready .fits; bounded = unswept going; long = omega (arith, l .enough); within = omega arith }
 
-  pub level-going : n ≤ level → (r : Bool) → r ≡ atGoal j k → r ≡ false → Sweeping j level 0 ws b k
+  pub level-going : n ≤ level → (r : Bool) → r ≡ atGoal k → r ≡ false → Sweeping j level 0 ws b k
   level-going h r e f = level-sweep h (sym e ∙ f)
 
   -- After it every bound is below the level, or the goal is reached; and none exceeds the greatest of the blocks.
@@ -195,5 +196,5 @@ module _ (j : Job) (n : ℕ) (ws₀ b₀ : List ℕ) (k₀ : Totals) (ws b : Lis
         short = λ going. omega (arith, best-is s .long, below-level j ws level 0 (l .ready .fits .space) (unswept going) (best s .p) (best s .t));
       }
 
-  pub level-goal : (r : Bool) → r ≡ atGoal j k → r ≡ true → Finished j n ws₀ b₀ k₀ ws b k
-  level-goal r e t = record { fits = l .ready .fits; onward = l .onward; short = λ going. absurd (at-goal-no r (atGoal j k) e t going) }
+  pub level-goal : (r : Bool) → r ≡ atGoal k → r ≡ true → Finished j n ws₀ b₀ k₀ ws b k
+  level-goal r e t = record { fits = l .ready .fits; onward = l .onward; short = λ going. absurd (at-goal-no r (atGoal k) e t going) }

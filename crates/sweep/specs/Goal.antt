@@ -6,8 +6,7 @@ use lib.Dec.{leb, ltb}
 use Rattle.tiling.specs.Tiling.{Tile, onPattern, size}
 use Rattle.tiling.specs.Stretch.{fillable}
 use Rattle.tiling.specs.Until.{Far, until}
-use Rattle.bounds.specs.declared.Goal.{Goal}
-use Rattle.bounds.specs.declared.Job.{Job}
+use Rattle.sweep.specs.declared.Goal.{Goal}
 use Rattle.sweep.specs.declared.Totals.{Totals}
 
 -- As many words are covered as are enough, or fewer than are needed can still be.
@@ -15,13 +14,13 @@ abbrev pub stopsAt : Goal → ℕ → ℕ → Bool
 stopsAt g covered fillable = leb (g .enough) covered || ltb (covered + fillable) (g .needed)
 
 -- A comparison is at its goal, by its record.
-unfoldable pub atGoal : Job → Totals → Bool
-atGoal j k = stopsAt (j .goal) (k .covered) (k .fillable)
+unfoldable pub atGoal : Totals → Bool
+atGoal k = stopsAt (k .goal) (k .covered) (k .fillable)
 
 -- The same by how far it has come, at a minimum.
 unfoldable pub stopped : Goal → ℕ → Far → Bool
 stopped g minimum f = stopsAt g (f .covered) (fillable minimum (f .pattern))
 
 -- The first tiles of a list, until the goal.
-abbrev pub untilGoal : Job → Far → List Tile → List Tile
-untilGoal j f tiles = until onPattern size (stopped (j .goal) (j .minimum)) f tiles
+abbrev pub untilGoal : Goal → ℕ → Far → List Tile → List Tile
+untilGoal g minimum f tiles = until onPattern size (stopped g minimum) f tiles

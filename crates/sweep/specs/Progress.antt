@@ -26,7 +26,7 @@ pub record Fits (j : Job) (ws b : List ℕ) (k : Totals) : Type 0 where
   pub space : Space j ws
   pub least : 1 ≤ j .minimum
   pub most : j .minimum ≤ 256
-  pub tile-room : j .goal .listed ≡ true → 3 * (j .n / j .minimum) ≤ length b
+  pub tile-room : k .goal .listed ≡ true → 3 * (j .n / j .minimum) ≤ length b
   pub each : k .count * j .minimum ≤ k .covered
   pub free : k .covered + tally isCall (take (j .n) ws) ≤ j .n
   pub left : k .fillable ≡ fillable (j .minimum) (state j ws .pattern)
@@ -40,14 +40,15 @@ far j ws k = record { covered = k .covered; pattern = state j ws .pattern }
 pub record Laid (j : Job) (s₀ : State) (b₀ : List ℕ) (ws b : List ℕ) (k : Totals) : Type 0 where
   pub tiles : List Tile
   pub rest : (ls : List Tile) → Greedy best size lay (j .minimum) (state j ws) ls → Greedy best size lay (j .minimum) s₀ (tiles ++ ls)
-  pub going : (ls : List Tile) → untilGoal j (unlaid (s₀ .pattern)) (tiles ++ ls) ≡ tiles ++ untilGoal j (far j ws k) ls
-  pub held : b ≡ pick (j .goal .listed) (onto (tileWords (map (listed (j .straight)) tiles)) b₀) b₀
+  pub going : (ls : List Tile) → untilGoal (k .goal) (j .minimum) (unlaid (s₀ .pattern)) (tiles ++ ls) ≡ tiles ++ untilGoal (k .goal) (j .minimum) (far j ws k) ls
+  pub held : b ≡ pick (k .goal .listed) (onto (tileWords (map (listed (j .straight)) tiles)) b₀) b₀
   pub counted : k .count ≡ length tiles
   pub summed : k .covered ≡ covered (map (listed (j .straight)) tiles)
 
--- What was laid before is laid after, with more tiles at its end.
+-- What was laid before is laid after, with more tiles at its end; and the goal is the same.
 pub record Onward (j : Job) (ws b : List ℕ) (k : Totals) (ws' b' : List ℕ) (k' : Totals) : Type 0 where
   pub keeps : (s₀ : State) (b₀ : List ℕ) → Laid j s₀ b₀ ws b k → Laid j s₀ b₀ ws' b' k'
+  pub aim : k' .goal ≡ k .goal
 
 -- No run of a row exceeds its bound, no bound the level, and the rows before p are below the level.
 pub record Bounded (j : Job) (ws : List ℕ) (level p : ℕ) : Type 0 where
@@ -73,7 +74,7 @@ UpperFrom j ws from = (q t : ℕ) → from ≤ q → q < j .n → runAt (state j
 pub record Over (j : Job) (level : ℕ) (ws b : List ℕ) (k : Totals) : Type 0 where
   pub fits : Fits j ws b k
   pub upper : Upper j ws
-  pub below : atGoal j k ≡ false → (q : ℕ) → q < j .n → bound j ws q < level
+  pub below : atGoal k ≡ false → (q : ℕ) → q < j .n → bound j ws q < level
 
 -- The row at p was searched, or another row tells of it: no run of it exceeds the length found, which is at most the level. Where it is the
 -- level, a run of that length is at the position found, and no position before has one.
@@ -104,4 +105,4 @@ pub record Ready (j : Job) (ws b : List ℕ) (k : Totals) : Type 0 where
 pub record Finished (j : Job) (s : ℕ) (ws b : List ℕ) (k : Totals) (ws' b' : List ℕ) (k' : Totals) : Type 0 where
   pub fits : Fits j ws' b' k'
   pub onward : Onward j ws b k ws' b' k'
-  pub short : atGoal j k' ≡ false → best (state j ws') .len < s
+  pub short : atGoal k' ≡ false → best (state j ws') .len < s

@@ -22,21 +22,21 @@ pick true laid lowered = laid
 pick false laid lowered = lowered
 
 -- The tile buffer with one tile after those that it has, where tiles are listed.
-abbrev pub oneMore : Job → ℕ → Tile → List ℕ → List ℕ
-oneMore j count k b =
-    pick (j .goal .listed) (take (3 * count) b ++ onto (tileWords (listed (j .straight) k ∷ [])) (drop (3 * count) b)) b
+abbrev pub oneMore : Job → Totals → Tile → List ℕ → List ℕ
+oneMore j k next b =
+    pick (k .goal .listed) (take (3 * k .count) b ++ onto (tileWords (listed (j .straight) next ∷ [])) (drop (3 * k .count) b)) b
 
 -- The record of the comparison after a tile of len words at p.
 abbrev pub laidTotals : Job → ℕ → ℕ → List ℕ → Totals → Totals
 laidTotals j p len ws k =
-    record { count = k .count + 1; covered = k .covered + len; fillable = fillable (j .minimum) (mark p len (state j ws .pattern)) }
+    record { count = k .count + 1; covered = k .covered + len; fillable = fillable (j .minimum) (mark p len (state j ws .pattern)); goal = k .goal }
 
 -- The workspace, the tile buffer and the totals.
 abbrev pub settledWords : Job → ℕ → ℕ → Found → List ℕ → List ℕ
 settledWords j level p f ws = pick (eqb (f .len) level) (laid j p (f .t .0) level ws) (set ws (boundsFrom j + p) (f .len))
 
 abbrev pub settledTiles : Job → ℕ → ℕ → Found → Totals → List ℕ → List ℕ
-settledTiles j level p f k b = pick (eqb (f .len) level) (oneMore j (k .count) (record { p = p; t = f .t .0; len = level }) b) b
+settledTiles j level p f k b = pick (eqb (f .len) level) (oneMore j k (record { p = p; t = f .t .0; len = level }) b) b
 
 abbrev pub settledTotals : Job → ℕ → ℕ → Found → List ℕ → Totals → Totals
 settledTotals j level p f ws k = pick (eqb (f .len) level) (laidTotals j p level ws k) k

@@ -23,12 +23,21 @@ pub struct Found {
     pub len: usize,
 }
 
+// What a comparison is for: whether its tiles are listed, and where it stops: when as many words are covered as are enough, or
+// when fewer than are needed can still be. A whole comparison lists its tiles and never stops.
+pub struct Goal {
+    pub listed: bool,
+    pub enough: usize,
+    pub needed: usize,
+}
+
 // The record of a comparison under way: the tiles laid so far, how many words they cover, and how many words of the pattern
-// further tiles may take, which are those in free stretches of at least the minimum.
+// further tiles may take, which are those in free stretches of at least the minimum; and its goal.
 pub struct Totals {
     pub count: usize,
     pub covered: usize,
     pub fillable: usize,
+    pub goal: Goal,
 }
 
 // A round of the sweep: the level, and what is laid before it.
@@ -38,11 +47,12 @@ pub struct Round {
 }
 
 // Whether a comparison is at its goal, where it stops: the one test, asked before the first tile and after each.
-pub fn at_goal(job: Job, totals: Totals) -> bool
+pub fn at_goal(totals: Totals) -> bool
     requires { ⌜ (totals .covered ≤ 2048) × (totals .fillable ≤ 2048) ⌝ }
-    ensures { λ r. ⌜ r ≡ atGoal job totals ⌝ }
+    ensures { λ r. ⌜ r ≡ atGoal totals ⌝ }
 {
-    (job.goal.enough <= totals.covered) | (totals.covered + totals.fillable < job.goal.needed)
+    let goal = totals.goal;
+    (goal.enough <= totals.covered) | (totals.covered + totals.fillable < goal.needed)
 }
 
 // The longer of what was found and a run of len words at t; of equal ones, what was found.
@@ -211,22 +221,25 @@ fn lay_next(
     ensures { λ r. ⌜ r ≡ laidTotals job (p .0) len (now (ws .entry)) totals ⌝ }
     ensures { λ r. ⌜ now (ws .exit) ≡ laid job (p .0) (t .0) len (now (ws .entry)) ⌝ }
 {
+    let goal = totals.goal;
     let taken = taken_by(ws, job, p, len);
     lay_tile(ws, job, p, t, len);
     Totals {
         count: totals.count + 1,
         covered: totals.covered + len,
         fillable: totals.fillable - taken,
+        goal,
     }
 }
 
-// Lists a tile after the count tiles that are listed already, where tiles are listed.
-fn list(tiles: &mut [u32], job: Job, count: usize, p: PatternAt, t: TextAt, len: usize)
-    requires { ⌜ (job .goal .listed ≡ true → 3 * (count + 1) ≤ length (now tiles)) × (p .0 ≤ 2048) × (t .0 ≤ 2048) × (len ≤ 2048) × (count ≤ 2048) ⌝ }
-    ensures { λ r. ⌜ now (tiles .exit) ≡ oneMore job count (record { p = p .0; t = t .0; len = len }) (now (tiles .entry)) ⌝ }
+// Lists a tile after those that are listed already, where tiles are listed.
+fn list(tiles: &mut [u32], job: Job, totals: Totals, p: PatternAt, t: TextAt, len: usize)
+    requires { ⌜ (totals .goal .listed ≡ true → 3 * (totals .count + 1) ≤ length (now tiles)) × (p .0 ≤ 2048) × (t .0 ≤ 2048) × (len ≤ 2048) × (totals .count ≤ 2048) ⌝ }
+    ensures { λ r. ⌜ now (tiles .exit) ≡ oneMore job totals (record { p = p .0; t = t .0; len = len }) (now (tiles .entry)) ⌝ }
 {
-    if job.goal.listed {
-        tile::list_tile(tiles, count, job.straight, p, t, len);
+    let goal = totals.goal;
+    if goal.listed {
+        tile::list_tile(tiles, totals.count, job.straight, p, t, len);
     }
 }
 
@@ -241,7 +254,7 @@ pub fn settle(
     tiles: &mut [u32],
     totals: Totals,
 ) -> Totals
-    requires { ⌜ Sweeping job level (p .0) (now ws) (now tiles) totals × (atGoal job totals ≡ false) × (p .0 < job .n) × (bound job (now ws) (p .0) ≡ level) × Searched job (now ws) level (p .0) found ⌝ }
+    requires { ⌜ Sweeping job level (p .0) (now ws) (now tiles) totals × (atGoal totals ≡ false) × (p .0 < job .n) × (bound job (now ws) (p .0) ≡ level) × Searched job (now ws) level (p .0) found ⌝ }
     ensures { λ r. ⌜ r ≡ settledTotals job level (p .0) found (now (ws .entry)) totals ⌝ }
     ensures { λ r. ⌜ now (ws .exit) ≡ settledWords job level (p .0) found (now (ws .entry)) ⌝ }
     ensures { λ r. ⌜ now (tiles .exit) ≡ settledTiles job level (p .0) found totals (now (tiles .entry)) ⌝ }
@@ -253,6 +266,6 @@ pub fn settle(
         bounds::set_bound(ws, job, p, found.len);
         return totals;
     }
-    list(tiles, job, totals.count, p, found.t, level);
+    list(tiles, job, totals, p, found.t, level);
     lay_next(ws, job, p, found.t, level, totals)
 }

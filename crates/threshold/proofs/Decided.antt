@@ -21,7 +21,7 @@ use Rattle.tiling.proofs.Until.{until-stops, until-goes}
 use Rattle.tile.specs.Listed.{listed}
 use Rattle.stretch.proofs.Fillable.{tile-takes}
 use Rattle.sweep.specs.Goal.{stopped}
-use Rattle.bounds.specs.declared.Goal.{Goal}
+use Rattle.sweep.specs.declared.Goal.{Goal}
 use Rattle.ends.proofs.Opening.{listing-is}
 use Rattle.ends.proofs.Ending.{first-listed-is}
 

@@ -14,7 +14,7 @@ use Rattle.tiling.specs.Comparing.{Comparable}
 use Rattle.tiling.specs.Listing.{listing, covered}
 use Rattle.tiling.specs.Until.{firstListed}
 use Rattle.sweep.specs.Goal.{stopped}
-use Rattle.bounds.specs.declared.Goal.{Goal}
+use Rattle.sweep.specs.declared.Goal.{Goal}
 use Rattle.sweep.specs.declared.Totals.{Totals}
 use Rattle.ends.specs.Result.{Room, Ran}
 use Rattle.threshold.specs.Promise.{isReached, toldTiles, toldAnswer, thresholdRefusal, AtLeast}

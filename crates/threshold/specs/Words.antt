@@ -1,7 +1,7 @@
 -- The threshold as a number of covered words. No reader of the service's contract needs these.
 use Prim.Native.Nat.{ℕ, zero, suc, _+_, _*_, _/_}
 use mathlib.Core.Bool.{false}
-use Rattle.bounds.specs.declared.Goal.{Goal}
+use Rattle.sweep.specs.declared.Goal.{Goal}
 
 -- The fewest covered words, of sequences with total words together, that score at least the threshold. Of two empty sequences nothing is
 -- covered, and they score 0.

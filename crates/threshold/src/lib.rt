@@ -1,7 +1,7 @@
 // Whether two sequences score at least a threshold, and how many tiles it takes to tell: it stops laying them when that many words
 // are covered, or when so many no longer can be.
 use search::Settings;
-use bounds::Goal;
+use sweep::Goal;
 ghost use mathlib.Core.Path.{_≡_};
 ghost use Prim.Native.Nat.{_+_, _*_, _≤_};
 ghost use lib.ListN.{length, replicate};

@@ -11,14 +11,14 @@ taken-by-requires c κs = search needs
 lay-tile-requires : tie.Need-lay-tile-requires
 lay-tile-requires c κs = search needs
 
-add-t13 : tie.Need-add-t13
-add-t13 c = search needs
-
 add-t14 : tie.Need-add-t14
 add-t14 c = search needs
 
-sub-t15 : tie.Need-sub-t15
-sub-t15 c = search needs
+add-t15 : tie.Need-add-t15
+add-t15 c = search needs
+
+sub-t16 : tie.Need-sub-t16
+sub-t16 c = search needs
 
 same-length : tie.Need-same-length
 same-length c = search needs
@@ -29,4 +29,4 @@ returns c = (search totals-after, search needs)
 pub lay-next-spec : {M : Type 1} → statement M
 lay-next-spec =
     tie.close
-    (tie.spec taken-by-requires lay-tile-requires add-t13 add-t14 sub-t15 same-length returns)
+    (tie.spec taken-by-requires lay-tile-requires add-t14 add-t15 sub-t16 same-length returns)

@@ -1,6 +1,6 @@
 -- `sweep::list` meets its contract: where tiles are listed there is room for one more.
 -- Assumes nothing.
-use Rattle.sweep.proofs.Laying.{room-listed, listed-one}
+use Rattle.sweep.proofs.Laying.{room-listed, listed-one, listed-none}
 use borrow.Author.Needs.{needs}
 use Rattle.sweep.proofs.list.Statement.{statement}
 use Rattle.sweep.proofs.list.Tie as tie
@@ -15,7 +15,7 @@ returns : tie.Need-returns
 returns c = search listed-one
 
 returns-2 : tie.Need-returns-2
-returns-2 c = search needs
+returns-2 c = search listed-none
 
 pub list-spec : {M : Type 1} → statement M
 list-spec = tie.close (tie.spec list-tile-requires same-length returns returns-2)
