@@ -1,8 +1,8 @@
 // The two ends of a comparison, the same for both engines. Before it the pattern is chosen, and both sequences are copied to the
 // workspace; after it the workspace is cleared and the answer made. What lies between goes from one state of the workspace to
 // another and knows nothing of either.
-use sweep::Goal;
 use bounds::Job;
+use sweep::Goal;
 use sweep::Totals;
 use tiling::Compared;
 ghost use mathlib.Core.Path.{_≡_};

@@ -1,7 +1,7 @@
 // The plain engine: any pair of positions may be looked at, and no hash.
+use bounds::Job;
 use sweep::Found;
 use sweep::Goal;
-use bounds::Job;
 use sweep::Round;
 use sweep::Totals;
 use tile::PatternAt;

@@ -1,8 +1,8 @@
 // Rows searched by the index. A word of the pattern is compared with one of the text in `visit` and in `goes_on`, only where two
 // windows have the same hash, and nowhere else in the fast engine.
+use bounds::Job;
 use index::Pass;
 use sweep::Found;
-use bounds::Job;
 use tile::PatternAt;
 use tile::TextAt;
 ghost use mathlib.Core.Bool.{_&&_};

@@ -208,14 +208,7 @@ fn taken_by(ws: &[u32], job: Job, p: PatternAt, len: usize) -> usize
 }
 
 // Lays a tile and brings the record of the comparison up to date.
-fn lay_next(
-    ws: &mut [u32],
-    job: Job,
-    p: PatternAt,
-    t: TextAt,
-    len: usize,
-    totals: Totals,
-) -> Totals
+fn lay_next(ws: &mut [u32], job: Job, p: PatternAt, t: TextAt, len: usize, totals: Totals) -> Totals
     requires { ⌜ Space job (now ws) × (p .0 + len ≤ job .n) × (t .0 + len ≤ job .m) × OnFree (job .minimum) (p .0) len (state job (now ws) .pattern) ⌝ }
     requires { ⌜ (totals .count ≤ 2048) × (totals .covered ≤ 2048) × (totals .fillable ≡ fillable (job .minimum) (state job (now ws) .pattern)) ⌝ }
     ensures { λ r. ⌜ r ≡ laidTotals job (p .0) len (now (ws .entry)) totals ⌝ }

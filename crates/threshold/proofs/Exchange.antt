@@ -26,24 +26,29 @@ told-within first second minimum threshold =
     omega (arith, ap length (b .whole), length-append (toldTiles first second minimum threshold) (b .rest))
 
 -- ---- exchanging the sequences
-module _ (first second : List ℕ) where
-  same-pattern : patternOf second first ≡ patternOf first second
-  unfolding patternOf
-  same-pattern = go (pattern-turn first second) (firstIsPattern first second) refl
-    where
-      go : (firstIsPattern second first ≡ not (firstIsPattern first second)) ⊎ (first ≡ second) → (t : Bool) → firstIsPattern first second ≡ t → patternOf second first ≡ patternOf first second
-      go (inl e) true t = let f : firstIsPattern second first ≡ false = e ∙ ap not t in rw (patternOf, f, t) refl
-      go (inl e) false t = let f : firstIsPattern second first ≡ true = e ∙ ap not t in rw (patternOf, f, t) refl
-      go (inr e) b t = rw e refl
+-- What is chosen of two sequences by which is the pattern, so that exchanging both changes nothing, is the same.
+same-side : (side : Bool → List ℕ → List ℕ → List ℕ) → ((t : Bool) (xs ys : List ℕ) → side (not t) ys xs ≡ side t xs ys) → (first second : List ℕ) → side (firstIsPattern second first) second first ≡ side (firstIsPattern first second) first second
+same-side side turned first second = go (pattern-turn first second)
+  where
+    go : (firstIsPattern second first ≡ not (firstIsPattern first second)) ⊎ (first ≡ second) → side (firstIsPattern second first) second first ≡ side (firstIsPattern first second) first second
+    go (inl e) = ap (λ t. side t second first) e ∙ turned (firstIsPattern first second) first second
+    go (inr e) = rw e refl
 
-  same-text : textOf second first ≡ textOf first second
-  unfolding textOf
-  same-text = go (pattern-turn first second) (firstIsPattern first second) refl
-    where
-      go : (firstIsPattern second first ≡ not (firstIsPattern first second)) ⊎ (first ≡ second) → (t : Bool) → firstIsPattern first second ≡ t → textOf second first ≡ textOf first second
-      go (inl e) true t = let f : firstIsPattern second first ≡ false = e ∙ ap not t in rw (textOf, f, t) refl
-      go (inl e) false t = let f : firstIsPattern second first ≡ true = e ∙ ap not t in rw (textOf, f, t) refl
-      go (inr e) b t = rw e refl
+same-pattern : (first second : List ℕ) → patternOf second first ≡ patternOf first second
+unfolding patternOf
+same-pattern = same-side (λ t xs ys. elim t [ true ↦ xs | false ↦ ys ]) turned
+  where
+    turned : (t : Bool) (xs ys : List ℕ) → elim (not t) [ true ↦ ys | false ↦ xs ] ≡ elim t [ true ↦ xs | false ↦ ys ]
+    turned true xs ys = refl
+    turned false xs ys = refl
+
+same-text : (first second : List ℕ) → textOf second first ≡ textOf first second
+unfolding textOf
+same-text = same-side (λ t xs ys. elim t [ true ↦ ys | false ↦ xs ]) turned
+  where
+    turned : (t : Bool) (xs ys : List ℕ) → elim (not t) [ true ↦ xs | false ↦ ys ] ≡ elim t [ true ↦ ys | false ↦ xs ]
+    turned true xs ys = refl
+    turned false xs ys = refl
 
 -- How many tell, by pattern and text alone.
 counted : (first second : List ℕ) (minimum threshold : ℕ) → length (toldTiles first second minimum threshold) ≡ length (until onPattern size (told threshold (length first + length second) minimum) (unlaid (patternOf first second)) (tiling minimum (start (patternOf first second) (textOf first second))))
