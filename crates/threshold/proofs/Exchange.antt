@@ -38,7 +38,7 @@ same-pattern : (first second : List ℕ) → patternOf second first ≡ patternO
 unfolding patternOf
 same-pattern = same-side (λ t xs ys. elim t [ true ↦ xs | false ↦ ys ]) turned
   where
-    turned : (t : Bool) (xs ys : List ℕ) → elim (not t) [ true ↦ ys | false ↦ xs ] ≡ elim t [ true ↦ xs | false ↦ ys ]
+    turned : (t : Bool) (xs ys : List ℕ) → _≡_ {A = List ℕ} (elim (not t) [ true ↦ ys | false ↦ xs ]) (elim t [ true ↦ xs | false ↦ ys ])
     turned true xs ys = refl
     turned false xs ys = refl
 
@@ -46,7 +46,7 @@ same-text : (first second : List ℕ) → textOf second first ≡ textOf first s
 unfolding textOf
 same-text = same-side (λ t xs ys. elim t [ true ↦ ys | false ↦ xs ]) turned
   where
-    turned : (t : Bool) (xs ys : List ℕ) → elim (not t) [ true ↦ xs | false ↦ ys ] ≡ elim t [ true ↦ ys | false ↦ xs ]
+    turned : (t : Bool) (xs ys : List ℕ) → _≡_ {A = List ℕ} (elim (not t) [ true ↦ xs | false ↦ ys ]) (elim t [ true ↦ ys | false ↦ xs ])
     turned true xs ys = refl
     turned false xs ys = refl
 
