@@ -2,7 +2,7 @@
 -- left; so what was laid are the first tiles that the greedy choice lays, until the goal, and those are the first of the tiling, of the
 -- replaced words and so of the words.
 -- Assumes nothing.
-use Prim.Native.Nat.{ℕ, _≤_}
+use Prim.Native.Nat.{ℕ}
 use native.Mathlib.Nat.{mul-le-mul-left, mul-one}
 use native.Mathlib.Omega.{arith}
 use mathlib.Core.Path.{_≡_, refl, sym, _∙_, ap, subst}
@@ -31,7 +31,7 @@ use Rattle.bounds.specs.declared.Job.{Job}
 use Rattle.sweep.specs.declared.Totals.{Totals}
 use Rattle.sweep.proofs.Step.{goal-is}
 use Rattle.ends.specs.Ends.{Opened, noTiles}
-use Rattle.ends.specs.Result.{Room, Listed, Ran}
+use Rattle.ends.specs.Result.{Room, Ran}
 use Rattle.ends.proofs.Opening.{first-state, listing-is, opened-fits}
 
 -- ---- tiles as they are listed

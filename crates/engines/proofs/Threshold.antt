@@ -5,13 +5,12 @@ use Prim.Native.Nat.{ℕ, _+_, _*_, _≤_}
 use native.Mathlib.Omega.{arith}
 use mathlib.Core.Path.{_≡_, refl, sym, _∙_, ap, subst}
 use mathlib.Core.List.{List}
-use borrow.Author.Tests.{le-leb, le-ltb, leb-true, leb-false}
+use borrow.Author.Tests.{le-leb, le-ltb, leb-true}
 use mathlib.Core.Bool.{Bool, true, false}
-use lib.Dec.{leb, ltb}
+use lib.Dec.{leb}
 use lib.ListN.{length}
-use Rattle.symbol.specs.Refusal.{refuse}
 use Rattle.tiling.specs.Tally.{one}
-use Rattle.tiling.specs.Comparing.{workspaces, Comparable, InRange}
+use Rattle.tiling.specs.Comparing.{Comparable, InRange}
 use Rattle.tiling.specs.Listing.{listing, covered, score}
 use Rattle.tiling.specs.declared.Compared.{Compared}
 use Rattle.tiling.proofs.Comparing.{comparable, comparable-exchange, search-passes}

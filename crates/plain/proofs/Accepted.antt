@@ -4,7 +4,7 @@ use Prim.Native.Nat.{ℕ}
 use mathlib.Core.Path.{_≡_, sym, _∙_}
 use mathlib.Core.List.{List}
 use lib.ListN.{length}
-use Rattle.tiling.specs.Comparing.{plainRefusal, Comparable, Roomy}
+use Rattle.tiling.specs.Comparing.{plainRefusal, Comparable}
 use Rattle.tiling.proofs.Comparing.{comparable, plain-roomy}
 use Rattle.sweep.specs.declared.Goal.{Goal}
 use Rattle.ends.specs.Ends.{wholeGoal}

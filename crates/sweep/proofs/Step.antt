@@ -2,7 +2,7 @@
 -- longer and no row before has one as long: it is the best tile, and laying it keeps the sweep's invariant. Where it has none, its bound
 -- falls below the level.
 -- Assumes nothing.
-use Prim.Native.Nat.{ℕ, _+_, _-_, _*_, _/_, _^_, _≤_, _<_}
+use Prim.Native.Nat.{ℕ, _+_, _-_, _*_, _/_, _≤_, _<_}
 use native.Mathlib.Nat.{add-mul, one-mul, mul-one, mul-le-mul-left, le-div-iff-mul-le}
 use native.Mathlib.Decide.{decLt, ℕ-discrete}
 use native.Mathlib.Omega.{arith}

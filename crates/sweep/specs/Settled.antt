@@ -18,8 +18,8 @@ use Rattle.sweep.specs.declared.Totals.{Totals}
 
 -- One of two, by a test.
 abbrev pub pick : {A : Type 0} → Bool → A → A → A
-pick true laid lowered = laid
-pick false laid lowered = lowered
+pick true a b = a
+pick false a b = b
 
 -- The tile buffer with one tile after those that it has, where tiles are listed.
 abbrev pub oneMore : Job → Totals → Tile → List ℕ → List ℕ

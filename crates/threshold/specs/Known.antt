@@ -1,7 +1,7 @@
 -- Whether some of the known pairs reach some thresholds, and the tiles that this takes, as one list of cases, and the test that each comes out
 -- as written.
 use Prim.Native.Nat.{ℕ}
-use mathlib.Core.Bool.{Bool, true, false, not, _&&_, _||_}
+use mathlib.Core.Bool.{Bool, true, false, not, _&&_}
 use mathlib.Core.List.{List, [], _∷_}
 use lib.Dec.{eqb}
 use lib.ListN.{length}
