@@ -15,7 +15,7 @@ use crate::engine::{every_settings, Engine};
 use crate::group::Group;
 use crate::known::{self, Known, Letters, LISTING};
 use crate::pairs::{
-    any_pair, both_orders, calls, distinct, every_sequence, pattern_words, periodic, related,
+    any_pair, both_orders, calls, distinct, every_small_pair, pattern_words, periodic, related,
     unrelated, Pair, Sides,
 };
 use crate::random::Random;
@@ -215,30 +215,18 @@ pub fn known(g: &mut Group) {
     }
 }
 
-/// Every pair of short sequences: of one code, of two codes, of three, and of two and the no-call.
+/// Every pair of short sequences.
 pub fn small(g: &mut Group) {
-    let [a, b, c] = [1, 2, 3].map(call);
-    let tables: [(&[u32], usize); 4] = [
-        (&[a], 12),
-        (&[a, b], 6),
-        (&[a, b, c], 4),
-        (&[a, b, NO_CALL], 4),
-    ];
-    for (table, longest) in tables {
-        let all = every_sequence(table, longest);
-        for first in &all {
-            for second in &all {
-                for minimum in 1..=3 {
-                    let case = format_args!(
-                        "{} and {}, minimum {minimum}",
-                        Letters(first),
-                        Letters(second)
-                    );
-                    compare(g, case, [first, second], minimum);
-                }
-            }
+    every_small_pair([12, 6, 4, 4], |[first, second]| {
+        for minimum in 1..=3 {
+            let case = format_args!(
+                "{} and {}, minimum {minimum}",
+                Letters(first),
+                Letters(second)
+            );
+            compare(g, case, [first, second], minimum);
         }
-    }
+    });
 }
 
 /// Compares so many random pairs in both orders; codes, lengths and minimums come from tables.

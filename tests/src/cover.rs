@@ -9,7 +9,7 @@ use crate::engine::{any_settings, every_settings, Engine};
 use crate::group::Group;
 use crate::known::{self, Letters};
 use crate::pairs::{
-    any_pair, blocks, both_orders, broken, calls, distinct, every_sequence, pattern_words,
+    any_pair, blocks, both_orders, broken, calls, distinct, every_small_pair, pattern_words,
     periodic, related, unrelated, Pair, Sides,
 };
 use crate::random::Random;
@@ -198,24 +198,12 @@ pub fn known(g: &mut Group) {
     }
 }
 
-/// Every pair of short sequences: of one code, of two codes, of three, and of two and the no-call.
+/// Every pair of short sequences.
 pub fn small(g: &mut Group) {
-    let [a, b, c] = [1, 2, 3].map(call);
-    let tables: [(&[u32], usize); 4] = [
-        (&[a], 12),
-        (&[a, b], 6),
-        (&[a, b, c], 3),
-        (&[a, b, NO_CALL], 4),
-    ];
-    for (table, longest) in tables {
-        let all = every_sequence(table, longest);
-        for first in &all {
-            for second in &all {
-                let case = format_args!("{} and {}", Letters(first), Letters(second));
-                Problem::new([first, second]).cover(g, case);
-            }
-        }
-    }
+    every_small_pair([12, 6, 3, 4], |[first, second]| {
+        let case = format_args!("{} and {}", Letters(first), Letters(second));
+        Problem::new([first, second]).cover(g, case);
+    });
 }
 
 /// Random pairs of up to 60 words over few codes and more, every fourth with retired ones, in both orders.

@@ -22,8 +22,23 @@ pub fn pattern_words([first, second]: Sides) -> usize {
     first.len().min(second.len())
 }
 
+/// Every pair of short sequences: of one code, of two codes, of three, and of two and the no-call, each of up to so many
+/// words.
+pub fn every_small_pair(longest: [usize; 4], mut with: impl FnMut(Sides)) {
+    let [a, b, c] = [1, 2, 3].map(call);
+    let tables: [&[u32]; 4] = [&[a], &[a, b], &[a, b, c], &[a, b, NO_CALL]];
+    for (table, longest) in tables.into_iter().zip(longest) {
+        let all = every_sequence(table, longest);
+        for first in &all {
+            for second in &all {
+                with([first, second]);
+            }
+        }
+    }
+}
+
 /// Every sequence of up to `longest` words that are all in the table.
-pub fn every_sequence(table: &[u32], longest: usize) -> Vec<Vec<u32>> {
+fn every_sequence(table: &[u32], longest: usize) -> Vec<Vec<u32>> {
     let mut all = vec![Vec::new()];
     let mut start = 0;
     for _ in 0..longest {

@@ -10,7 +10,7 @@ use crate::engine::{any_settings, every_settings, Engine};
 use crate::group::Group;
 use crate::known::{self, letters, Letters};
 use crate::pairs::{
-    any_pair, blocks, both_orders, broken, calls, distinct, every_sequence, pattern_words,
+    any_pair, blocks, both_orders, broken, calls, distinct, every_small_pair, pattern_words,
     periodic, related, unrelated, Pair, Sides,
 };
 use crate::random::Random;
@@ -280,26 +280,14 @@ pub fn every(g: &mut Group) {
     }
 }
 
-/// Every pair of short sequences: of one code, of two codes, of three, and of two and the no-call.
+/// Every pair of short sequences.
 pub fn small(g: &mut Group) {
-    let [a, b, c] = [1, 2, 3].map(call);
-    let tables: [(&[u32], usize); 4] = [
-        (&[a], 12),
-        (&[a, b], 5),
-        (&[a, b, c], 3),
-        (&[a, b, NO_CALL], 4),
-    ];
-    for (table, longest) in tables {
-        let all = every_sequence(table, longest);
-        for first in &all {
-            for second in &all {
-                for minimum in 1..=3 {
-                    let case = format_args!("{} and {}", Letters(first), Letters(second));
-                    Problem::new([first, second], minimum).ask_telling(g, case);
-                }
-            }
+    every_small_pair([12, 5, 3, 4], |[first, second]| {
+        for minimum in 1..=3 {
+            let case = format_args!("{} and {}", Letters(first), Letters(second));
+            Problem::new([first, second], minimum).ask_telling(g, case);
         }
-    }
+    });
 }
 
 /// Random pairs of up to 60 words over few codes and more, every fourth with retired ones, in both orders.

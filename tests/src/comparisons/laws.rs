@@ -3,7 +3,8 @@
 use super::{engines, listed, turned_back};
 use crate::engine::Engine;
 use crate::group::Group;
-use crate::pairs::{any_pair, both_orders, periodic, related, unrelated, Pair, Sides};
+use crate::pairs::{both_orders, periodic, related, unrelated, Pair, Sides};
+use crate::random::Random;
 use crate::reference::{covered, matches, replaced, score, Tile, MAX_WORDS};
 use crate::retired::{mixed_pair, related_retired};
 use crate::samples::call;
@@ -115,6 +116,21 @@ fn hold_by(g: &mut Group, name: &str, [engine, other]: [Engine; 2], pair: Sides,
     );
 }
 
+/// Pairs of up to 2,048 words: of each kind one, and ten random ones.
+pub fn larger_pairs(random: &mut Random) -> Vec<Pair> {
+    let mut pairs = vec![
+        related(random, MAX_WORDS, 40),
+        related(random, MAX_WORDS, 4),
+        related_retired(random, MAX_WORDS, 40),
+        unrelated(random, MAX_WORDS, 40),
+        unrelated(random, MAX_WORDS, 2),
+        [vec![call(0); MAX_WORDS], vec![call(0); MAX_WORDS]],
+        [periodic(MAX_WORDS, 6, 0), periodic(1_900, 9, 4)],
+    ];
+    pairs.extend((0..10).map(|_| mixed_pair(random, MAX_WORDS, 10)));
+    pairs
+}
+
 /// Random pairs, every fourth with retired codes, and larger ones, up to 2,048 words.
 pub fn laws(g: &mut Group) {
     for number in 0..8_000 {
@@ -124,18 +140,7 @@ pub fn laws(g: &mut Group) {
         let [first, second] = &pair;
         hold(g, &format!("pair {number}"), [first, second], minimum);
     }
-    let random = &mut g.random;
-    let mut pairs: Vec<Pair> = vec![
-        related(random, MAX_WORDS, 40),
-        related(random, MAX_WORDS, 4),
-        related_retired(random, MAX_WORDS, 40),
-        unrelated(random, MAX_WORDS, 40),
-        unrelated(random, MAX_WORDS, 2),
-        [vec![call(0); MAX_WORDS], vec![call(0); MAX_WORDS]],
-        [periodic(MAX_WORDS, 6, 0), periodic(1_900, 9, 4)],
-    ];
-    pairs.extend((0..10).map(|_| any_pair(random, MAX_WORDS, 10)));
-    for (number, pair) in pairs.iter().enumerate() {
+    for (number, pair) in larger_pairs(&mut g.random).iter().enumerate() {
         for sides in both_orders(pair) {
             for minimum in [1, 3, 8, 256] {
                 hold(g, &format!("larger pair {number}"), sides, minimum);

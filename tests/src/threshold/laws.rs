@@ -2,13 +2,13 @@
 //! it.
 
 use super::told;
+use crate::comparisons::laws::larger_pairs;
 use crate::comparisons::listed;
 use crate::engine::{any_settings, Engine};
 use crate::group::Group;
-use crate::pairs::{pattern_words, periodic, related, unrelated, Sides};
-use crate::reference::{covered, score, Tile, MAX_THRESHOLD, MAX_WORDS};
-use crate::retired::{mixed_pair, related_retired};
-use crate::samples::call;
+use crate::pairs::{pattern_words, Sides};
+use crate::reference::{covered, score, Tile, MAX_THRESHOLD};
+use crate::retired::mixed_pair;
 use sigxume::raw::Told;
 
 /// Whether the first so many tiles score at least a threshold.
@@ -93,18 +93,7 @@ pub fn laws(g: &mut Group) {
             &every,
         );
     }
-    let random = &mut g.random;
-    let mut pairs = vec![
-        related(random, MAX_WORDS, 40),
-        related(random, MAX_WORDS, 4),
-        related_retired(random, MAX_WORDS, 40),
-        unrelated(random, MAX_WORDS, 40),
-        unrelated(random, MAX_WORDS, 2),
-        [vec![call(0); MAX_WORDS], vec![call(0); MAX_WORDS]],
-        [periodic(MAX_WORDS, 6, 0), periodic(1_900, 9, 4)],
-    ];
-    pairs.extend((0..10).map(|_| mixed_pair(random, MAX_WORDS, 10)));
-    for (number, [first, second]) in pairs.iter().enumerate() {
+    for (number, [first, second]) in larger_pairs(&mut g.random).iter().enumerate() {
         let pair = [&first[..], second];
         for minimum in [1, 3, 8, 256] {
             let (answer, _) = listed(Engine::Plain, pair, minimum);
