@@ -31,8 +31,7 @@ const LEAST_CORES: f64 = 0.9;
 const THRESHOLD: u32 = 300;
 
 /// The list may take so much longer than the matrix: each answer about a threshold may take 1.15 times a
-/// comparison, and each pair that reaches it, which is one in nine, is then compared as well. To be set once the
-/// proved function is measured.
+/// comparison, and each pair that reaches it, which is one in nine, is then compared as well.
 const MOST_LIST: f64 = 1.3;
 
 /// The large matrix, the part of it that is made (each part has as many pairs, give or take one), how often

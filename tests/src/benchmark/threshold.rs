@@ -31,7 +31,7 @@ static VERDICT: Column = Column {
 };
 
 // The limits follow from the design alone: the tests between tiles are few, and what is decided before the first
-// tile is decided without a search. They are to be set once the proved function is measured.
+// tile is decided without a search.
 static TABLE: Table = Table {
     name: "threshold",
     about: &[About::Threshold, About::Reached, About::Laid, About::Tiles],
