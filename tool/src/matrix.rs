@@ -41,7 +41,7 @@ impl Matrix<'_> {
         let total = self.pairs.len();
         let size = (total / self.threads / 64).clamp(1, MOST);
         let threads = self.threads.min(total.div_ceil(size));
-        let mut pairs = self.sides.pairs().skip(self.pairs.start).take(total);
+        let mut pairs = self.sides.pairs_from(self.pairs.start).take(total);
         let chunks = iter::repeat_with(|| Vec::from_iter(pairs.by_ref().take(size)));
         let mut chunks = chunks.enumerate().take(total.div_ceil(size));
 

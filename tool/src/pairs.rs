@@ -31,10 +31,17 @@ impl<'a> Sides<'a> {
         [&self.rows[row], &self.columns()[column]]
     }
 
-    /// Goes through the pairs, row by row.
-    pub fn pairs(self) -> impl Iterator<Item = Pair> + 'a {
-        let rows = 0..self.rows.len();
-        rows.flat_map(move |row| self.partners(row).map(move |column| (row, column)))
+    /// Goes through the pairs, row by row, from a number on. Whole rows before it are passed over at once, so that a late part of
+    /// many pairs begins without delay.
+    pub fn pairs_from(self, mut number: usize) -> impl Iterator<Item = Pair> + 'a {
+        let mut first = 0;
+        while first < self.rows.len() && number >= self.partners(first).len() {
+            number -= self.partners(first).len();
+            first += 1;
+        }
+        let rows = first..self.rows.len();
+        let pairs = rows.flat_map(move |row| self.partners(row).map(move |column| (row, column)));
+        pairs.skip(number)
     }
 
     /// How many there are.
