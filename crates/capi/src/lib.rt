@@ -11,6 +11,7 @@ ghost use Rattle.symbol.specs.Word.{replaced, matches};
 ghost use Rattle.symbol.specs.Sequence.{allSound};
 ghost use Rattle.record.specs.Reading.{readAnswer, readBuffer};
 ghost use Rattle.record.specs.Writing.{writeAnswer, writeBuffer};
+ghost use Rattle.merge.specs.Merging.{mergeAnswer, mergeBuffer};
 ghost use Rattle.window.specs.HashList.{hashAnswer, hashBuffer};
 ghost use Rattle.plain.specs.Promise.{Plain};
 ghost use Rattle.search.specs.Promise.{Fast};
@@ -59,6 +60,17 @@ pub extern "C" fn sigxume_write(id: u16, sequence: &[u32], buffer: &mut [u32]) -
     ensures { λ r. ⌜ now (buffer .exit) ≡ writeBuffer id (now (sequence .entry)) (now (buffer .entry)) ⌝ }
 {
     record::write(id, sequence, buffer)
+}
+
+// Merges the records that first and second start with, two typings of one fish, word by word to the start of buffer: the first's
+// word where they match, the other's where one is the no-call, else the no-call. Refused: 8, 9, 8, 2, 10 of the first, then of the
+// second; 13, 14, 11.
+#[no_mangle]
+pub extern "C" fn sigxume_merge(first: &[u32], second: &[u32], buffer: &mut [u32]) -> Counted
+    ensures { λ r. ⌜ r ≡ mergeAnswer (now (first .entry)) (now (second .entry)) (length (now (buffer .entry))) ⌝ }
+    ensures { λ r. ⌜ now (buffer .exit) ≡ mergeBuffer (now (first .entry)) (now (second .entry)) (now (buffer .entry)) ⌝ }
+{
+    merge::merge(first, second, buffer)
 }
 
 // Fills the start of buffer with the hash of each window, of replaced words, for a multiplier and a window length. Refused: 1, 2,

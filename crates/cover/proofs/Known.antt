@@ -3,13 +3,13 @@
 use mathlib.Core.Bool.{true}
 use mathlib.Core.Path.{_≡_, refl}
 use Rattle.symbol.specs.Word.{kind, low, code, isCall, replacements, isRetired, replaced, equalCalls, matches}
-use Rattle.buffer.specs.Buffer.{tabulate}
+use Rattle.buffer.specs.Buffer.{tabulate, same}
 use Rattle.tiling.specs.Run.{leading, mark}
 use Rattle.tiling.specs.Greedy.{peak, greedy}
 use Rattle.tiling.specs.Tiling.{bestTextBy, rowLengthBy, bestBy, lay, tilingBy}
 use Rattle.tiling.specs.Choice.{firstByWords, firstIsPattern}
 use Rattle.tiling.specs.Listing.{listing, covered}
-use Rattle.tiling.specs.Known.{same, shorter, longer}
+use Rattle.tiling.specs.Known.{shorter, longer}
 use Rattle.cover.specs.Known.{holds, all-hold, cases}
 
 pub known : all-hold cases ≡ true

@@ -3,8 +3,9 @@ use Prim.Native.Nat.{ℕ}
 use mathlib.Core.Bool.{Bool, true, _&&_}
 use mathlib.Core.List.{List, [], _∷_}
 use lib.ListN.{length}
-use Rattle.buffer.specs.Buffer.{tabulate}
-use Rattle.tiling.specs.Known.{a, b, c, d, e, no-call, same, shorter, longer}
+use Rattle.buffer.specs.Buffer.{tabulate, same}
+use Rattle.symbol.specs.Word.{noCall}
+use Rattle.tiling.specs.Known.{a, b, c, d, e, shorter, longer}
 use Rattle.cover.specs.Promise.{coverAt}
 
 -- A pair, and what it covers at minimum 1, 2, 3 and so on.
@@ -27,5 +28,5 @@ cases =
     ∷ record { first = longer; second = shorter; entries = 7 ∷ 5 ∷ 5 ∷ 5 ∷ 5 ∷ 0 ∷ 0 ∷ [] }  -- the same, exchanged
     ∷ record { first = a ∷ b ∷ []; second = b ∷ a ∷ []; entries = 2 ∷ 0 ∷ 0 ∷ [] }  -- K7
     ∷ record { first = a ∷ b ∷ c ∷ d ∷ e ∷ []; second = c ∷ d ∷ e ∷ a ∷ b ∷ []; entries = 5 ∷ 5 ∷ 3 ∷ 0 ∷ [] }  -- K11: tiles of 3 and 2 words
-    ∷ record { first = a ∷ no-call ∷ a ∷ a ∷ []; second = a ∷ no-call ∷ a ∷ a ∷ []; entries = 3 ∷ 2 ∷ 0 ∷ [] }
+    ∷ record { first = a ∷ noCall ∷ a ∷ a ∷ []; second = a ∷ noCall ∷ a ∷ a ∷ []; entries = 3 ∷ 2 ∷ 0 ∷ [] }
     ∷ []

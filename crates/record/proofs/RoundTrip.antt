@@ -11,27 +11,28 @@ use lib.ListN.{length, getD, take, drop, length-append, length-drop, List·getD-
 use lib.Seq.{length-take-le, take-suc, take-at, drop-at, getD-at, take-append-le, drop-append-le}
 use borrow.Author.Tests.{le-ltb, ne-eqb}
 use Rattle.symbol.specs.Sequence.{allSound}
+use Rattle.symbol.specs.Refusal.{refuse}
 use Rattle.buffer.specs.Buffer.{onto}
-use Rattle.record.specs.Format.{header, idOf, trailer, encode}
-use Rattle.record.specs.Reading.{head, count, sequence, closes, readRefusal, readBuffer}
+use Rattle.record.specs.Format.{header, idOf, countOf, trailer, encode}
+use Rattle.record.specs.Reading.{head, count, sequence, closes, fault, readRefusal, readBuffer}
 use Rattle.record.specs.Writing.{writeRefusal, writeBuffer}
 use Rattle.record.specs.RoundTrip.{rewritten, Rewritten, Reread, Unread}
 use Rattle.record.proofs.Format.{id-header, count-header, kind-header, header-parts, id-small}
-use Rattle.record.proofs.Reading.{take-head, closes-trailer, trailer-closes, Accepted, accepted, read-accepts}
+use Rattle.record.proofs.Reading.{take-head, closes-trailer, trailer-closes, Recorded, accepted, read-accepts}
 use Rattle.record.proofs.Writing.{writable, write-accepts}
 
 pub length-encode : (id : ℕ) (s : List ℕ) → length (encode id s) ≡ length s + 2
 unfolding encode
 length-encode id s = simp length-append (omega arith)
 
--- ---- an accepted src starts with the encoding of its id and its sequence
-module _ (src : List ℕ) (room : ℕ) (a : Accepted src room) where
+-- ---- a src that starts with a record starts with the encoding of its id and its sequence
+module _ (src : List ℕ) (a : Recorded src) where
   pub length-sequence : length (sequence src) ≡ count src
   length-sequence = length-take-le (count src) (drop 1 src) (omega (arith, length-drop 1 src, a .whole))
 
-  pub accepted-encodes : take (count src + 2) src ≡ encode (idOf (head src)) (sequence src)
+  pub recorded-encodes : take (count src + 2) src ≡ encode (idOf (head src)) (sequence src)
   unfolding encode
-  accepted-encodes =
+  recorded-encodes =
       let two : count src + 2 ≡ suc (count src + 1) = omega arith in
       let front : take (count src + 1) src ≡ head src ∷ sequence src = take-head src (count src) (λ z. omega (arith, a .whole)) in
       let last : getD src (count src + 1) 0 ≡ trailer (head src ∷ sequence src) = closes-trailer src (a .closed) ∙ ap trailer front in
@@ -45,16 +46,16 @@ module _ (src : List ℕ) (room : ℕ) (a : Accepted src room) where
       )
       refl
 
--- ---- whatever starts with an encoding is accepted, and reads as what was encoded
-pub record Encodes (id : ℕ) (s src : List ℕ) (room : ℕ) : Type 0 where
+-- ---- whatever starts with an encoding starts with a record, and reads as what was encoded
+pub record Encodes (id : ℕ) (s src : List ℕ) : Type 0 where
   pub id-is : idOf (head src) ≡ id
   pub count-is : count src ≡ length s
   pub sequence-is : sequence src ≡ s
-  pub accepted-is : Accepted src room
+  pub recorded-is : Recorded src
 
-pub encoded : (id : ℕ) (s rest : List ℕ) (room : ℕ) → id < 2 ^ 16 → length s ≤ 2048 → allSound s ≡ true → length s ≤ room → Encodes id s (encode id s ++ rest) room
+pub encoded : (id : ℕ) (s rest : List ℕ) → id < 2 ^ 16 → length s ≤ 2048 → allSound s ≡ true → Encodes id s (encode id s ++ rest)
 unfolding encode
-encoded id s rest room small short sound fits =
+encoded id s rest small short sound =
     let src : List ℕ = encode id s ++ rest in
     let t : ℕ = trailer (header id (length s) ∷ s) in
     let n : count src ≡ length s = count-header id (length s) (omega arith) in
@@ -67,14 +68,13 @@ encoded id s rest room small short sound fits =
       id-is = id-header id (length s) small (omega arith);
       count-is = n;
       sequence-is = sequence-is;
-      accepted-is =
+      recorded-is =
           record {
             headed = kind-header id (length s) small (omega arith);
             short = omega (arith, n);
             whole = omega (arith, n, length-append (encode id s) rest, length-encode id s);
             sound = rw sequence-is sound;
             closed = trailer-closes src last;
-            fits = omega (arith, n);
           };
     }
 
@@ -83,8 +83,8 @@ encoded id s rest room small short sound fits =
 pub read-then-write : (src buffer out : List ℕ) → readRefusal src (length buffer) ≡ 0 → count src + 2 ≤ length out → Rewritten src buffer out
 read-then-write src buffer out e room =
     let a = accepted src (length buffer) e in
-    let n = length-sequence src (length buffer) a in
-    let words = accepted-encodes src (length buffer) a in
+    let n = length-sequence src a in
+    let words = recorded-encodes src a in
     let read : take (count src) (readBuffer src buffer) ≡ sequence src = rw e (take-at (sequence src) _ (count src) n) in
     let accepts : writeRefusal (sequence src) (length out) ≡ 0 =
     write-accepts
@@ -105,9 +105,9 @@ read-then-write src buffer out e room =
 pub write-then-read : (id : ℕ) (s buffer out : List ℕ) → id < 2 ^ 16 → writeRefusal s (length buffer) ≡ 0 → length s ≤ length out → Reread id s buffer out
 write-then-read id s buffer out small e room =
     let w = writable s (length buffer) e in
-    let r = encoded id s (drop (length (encode id s)) buffer) (length out) small (w .short) (w .sound) room in
+    let r = encoded id s (drop (length (encode id s)) buffer) small (w .short) (w .sound) in
     let written : writeBuffer id s buffer ≡ onto (encode id s) buffer = rw e refl in
-    let accepts : readRefusal (onto (encode id s) buffer) (length out) ≡ 0 = read-accepts _ (length out) (r .accepted-is) in
+    let accepts : readRefusal (onto (encode id s) buffer) (length out) ≡ 0 = read-accepts _ (length out) (r .recorded-is) (omega (arith, room, r .count-is)) in
     record {
       answer = rw (written, accepts, r .id-is, r .count-is) refl;
       copied = rw (written, accepts, r .sequence-is) refl;
@@ -127,8 +127,12 @@ tail-unread src rest whole =
     ne-eqb (length (src ++ rest)) 0 (λ z. omega (arith, length-append src rest)) ∙ sym (ne-eqb (length src) 0 (λ z. omega arith)) in
     let enough : ltb (length (src ++ rest)) (count src + 2) ≡ ltb (length src) (count src + 2) =
     le-ltb (length (src ++ rest)) (count src + 2) (omega (arith, length-append src rest)) ∙ sym (le-ltb (length src) (count src + 2) whole) in
-    let refusal : (room : ℕ) → readRefusal (src ++ rest) room ≡ readRefusal src room = λ room. rw (some, first, enough, body, last, front) refl in
+    let own : (later : ℕ) → fault (src ++ rest) later ≡ fault src later = λ later. rw (some, first, enough, body, last, front) refl in
+    let refusal : (room : ℕ) → readRefusal (src ++ rest) room ≡ readRefusal src room = λ room. own _ ∙ ap (λ (h : ℕ). fault src (refuse (ltb room (countOf h)) 11 0)) first in
     record {
+      first = first;
+      words = rw first body;
+      own = own;
       refusal = refusal;
       answer = λ room. rw (refusal room, first) refl;
       copied = λ buffer. rw (refusal (length buffer), first, body) refl;

@@ -28,8 +28,8 @@ closes src =
     eqb (kind (getD src (count src + 1) 0)) 3
     && eqb (low (getD src (count src + 1) 0)) (checksum (take (count src + 1) src))
 
--- "Reading a strip: an empty slice is 8; then 9; then fewer than count + 2 words is 8; then 2, 10, 11." The frame, the content, and
--- the room for it, each followed by what is checked later.
+-- "Reading a strip: an empty slice is 8; then 9; then fewer than count + 2 words is 8; then 2, 10, 11." The frame, the content, both
+-- as the record's own faults, and the room for it, each followed by what is checked later.
 abbrev pub frame : List ℕ → ℕ → ℕ
 frame src later =
     refuse (eqb (length src) 0) 8
@@ -40,8 +40,11 @@ frame src later =
 abbrev pub content : List ℕ → ℕ → ℕ
 content src later = refuse (not (allSound (sequence src))) 2 (refuse (not (closes src)) 10 later)
 
+abbrev pub fault : List ℕ → ℕ → ℕ
+fault src later = frame src (content src later)
+
 abbrev pub readRefusal : List ℕ → ℕ → ℕ
-readRefusal src room = frame src (content src (refuse (ltb room (count src)) 11 0))
+readRefusal src room = fault src (refuse (ltb room (count src)) 11 0)
 
 -- "Reading a strip answers the fish number, the count and how many words were used"
 abbrev pub readAnswer : List ℕ → ℕ → ReadAnswer

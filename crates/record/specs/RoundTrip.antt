@@ -5,7 +5,7 @@ use mathlib.Core.List.{List, _++_}
 use lib.ListN.{length, take, drop}
 use Rattle.buffer.specs.Buffer.{onto}
 use Rattle.record.specs.Format.{idOf}
-use Rattle.record.specs.Reading.{head, count, readRefusal, readAnswer, readBuffer}
+use Rattle.record.specs.Reading.{head, count, sequence, fault, readRefusal, readAnswer, readBuffer}
 use Rattle.record.specs.Writing.{writeRefusal, writeBuffer}
 
 -- What comes of writing what was read from src, by way of buffer, to out.
@@ -25,8 +25,12 @@ pub record Reread (id : ℕ) (s buffer out : List ℕ) : Type 0 where
   pub answer : readAnswer (writeBuffer id s buffer) (length out) ≡ record { refusal = 0; id = id; count = length s; used = length s + 2 }
   pub copied : readBuffer (writeBuffer id s buffer) out ≡ onto s out
 
--- "Words after the closing word aren't looked at": whatever follows src, all that reading gives is the same.
+-- "Words after the closing word aren't looked at": whatever follows src, its parts and its faults, and all that reading gives, are the
+-- same.
 pub record Unread (src rest : List ℕ) : Type 0 where
+  pub first : head (src ++ rest) ≡ head src
+  pub words : sequence (src ++ rest) ≡ sequence src
+  pub own : (later : ℕ) → fault (src ++ rest) later ≡ fault src later
   pub refusal : (room : ℕ) → readRefusal (src ++ rest) room ≡ readRefusal src room
   pub answer : (room : ℕ) → readAnswer (src ++ rest) room ≡ readAnswer src room
   pub copied : (buffer : List ℕ) → readBuffer (src ++ rest) buffer ≡ readBuffer src buffer

@@ -1,12 +1,12 @@
 // Reads and writes records: a header with id and count, a sequence, a trailer with a checksum.
 use symbol::Counted;
 ghost use mathlib.Core.Path.{_≡_};
-ghost use Prim.Native.Nat.{_+_, _≤_};
-ghost use lib.ListN.{length};
+ghost use Prim.Native.Nat.{_+_, _^_, _≤_, _<_};
+ghost use lib.ListN.{length, take, set};
 ghost use mathlib.Core.List.{[], _∷_, _++_};
 ghost use Rattle.buffer.specs.Buffer.{onto};
-ghost use Rattle.record.specs.Format.{header, trailer};
-ghost use Rattle.record.specs.Reading.{count, frame, content, readRefusal, readAnswer, readBuffer};
+ghost use Rattle.record.specs.Format.{header, idOf, countOf, trailer};
+ghost use Rattle.record.specs.Reading.{count, frame, content, fault, readRefusal, readAnswer, readBuffer};
 ghost use Rattle.record.specs.Writing.{writeRefusal, writeAnswer, writeBuffer};
 
 // The answer of reading: a refusal's number and zeros, or 0 and what was read.
@@ -24,6 +24,20 @@ fn header_of(id: u16, count: usize) -> u32
     ensures { λ r. ⌜ r ≡ header id count ⌝ }
 {
     (id as u32) * 16384 + (count as u32)
+}
+
+// The id that a header gives.
+pub fn id_of(h: u32) -> u32
+    ensures { λ r. ⌜ r ≡ idOf h ⌝ }
+{
+    h % 0x4000_0000 / 16384
+}
+
+// The count that a header gives.
+pub fn count_of(h: u32) -> usize
+    ensures { λ r. ⌜ (r ≡ countOf h) × (r < 2 ^ 14) ⌝ }
+{
+    (h % 16384) as usize
 }
 
 // The trailer of a header and a sequence.
@@ -50,7 +64,7 @@ fn frame_refusal(src: &[u32]) -> u32
     if h / 0x4000_0000 != 0 {
         return 9;
     }
-    let count = (h % 16384) as usize;
+    let count = count_of(h);
     if 2048 < count {
         return 9;
     }
@@ -66,7 +80,7 @@ fn content_refusal(src: &[u32]) -> u32
     ensures { λ r. ⌜ r ≡ content (now (src .entry)) 0 ⌝ }
 {
     let h = src[0];
-    let count = (h % 16384) as usize;
+    let count = count_of(h);
     let s = &src[1..count + 1];
     if !symbol::all_sound(s) {
         return 2;
@@ -77,19 +91,26 @@ fn content_refusal(src: &[u32]) -> u32
     0
 }
 
-// Why src cannot be read into a buffer of room words; 0 where it can.
-fn read_refusal(src: &[u32], room: usize) -> u32
-    ensures { λ r. ⌜ r ≡ readRefusal (now (src .entry)) room ⌝ }
+// Why src does not start with a record: 8, 9, 8, 2 or 10; 0 where it does. Words after the trailer are not looked at.
+pub fn fault(src: &[u32]) -> u32
+    ensures { λ r. ⌜ r ≡ fault (now (src .entry)) 0 ⌝ }
 {
     let framed = frame_refusal(src);
     if framed != 0 {
         return framed;
     }
-    let filled = content_refusal(src);
-    if filled != 0 {
-        return filled;
+    content_refusal(src)
+}
+
+// Why src cannot be read into a buffer of room words; 0 where it can.
+fn read_refusal(src: &[u32], room: usize) -> u32
+    ensures { λ r. ⌜ r ≡ readRefusal (now (src .entry)) room ⌝ }
+{
+    let found = fault(src);
+    if found != 0 {
+        return found;
     }
-    if room < (src[0] % 16384) as usize {
+    if room < count_of(src[0]) {
         return 11;
     }
     0
@@ -111,14 +132,13 @@ pub fn read(src: &[u32], buffer: &mut [u32]) -> ReadAnswer
             used: 0,
         };
     }
-    let h = src[0];
-    let count = h % 16384;
-    buffer::copy(&src[1..(count as usize) + 1], buffer);
+    let count = count_of(src[0]);
+    buffer::copy(&src[1..count + 1], buffer);
     ReadAnswer {
         refusal: 0,
-        id: h % 0x4000_0000 / 16384,
-        count,
-        used: count + 2,
+        id: id_of(src[0]),
+        count: count as u32,
+        used: (count as u32) + 2,
     }
 }
 
@@ -138,15 +158,24 @@ fn write_refusal(s: &[u32], room: usize) -> u32
     0
 }
 
-// Stores a header, a sequence and a trailer, one after another.
-fn store(h: u32, s: &[u32], t: u32, buffer: &mut [u32])
+// Puts the trailer after a header and n words.
+pub fn close(buffer: &mut [u32], n: usize)
+    requires { ⌜ n + 2 ≤ length (now buffer) ⌝ }
+    ensures { λ r. ⌜ now (buffer .exit) ≡ set (now (buffer .entry)) (n + 1) (trailer (take (n + 1) (now (buffer .entry)))) ⌝ }
+{
+    let t = trailer_of(buffer[0], &buffer[1..n + 1]);
+    buffer::put(buffer, n + 1, t);
+}
+
+// Stores the record of a header and a sequence.
+fn store(h: u32, s: &[u32], buffer: &mut [u32])
     requires { ⌜ length (now s) + 2 ≤ length (now buffer) ⌝ }
-    ensures { λ r. ⌜ now (buffer .exit) ≡ onto (h ∷ now (s .entry) ++ (t ∷ [])) (now (buffer .entry)) ⌝ }
+    ensures { λ r. ⌜ now (buffer .exit) ≡ onto (h ∷ now (s .entry) ++ (trailer (h ∷ now (s .entry)) ∷ [])) (now (buffer .entry)) ⌝ }
 {
     let n = s.len();
     buffer::put(buffer, 0, h);
     buffer::copy(s, &mut buffer[1..n + 1]);
-    buffer::put(buffer, n + 1, t);
+    close(buffer, n);
 }
 
 // Writes the record of an id and a sequence to the start of buffer and answers how many words it wrote. Refused: 1 for more
@@ -159,8 +188,7 @@ pub fn write(id: u16, s: &[u32], buffer: &mut [u32]) -> Counted
     if refusal != 0 {
         return Counted { refusal, count: 0 };
     }
-    let h = header_of(id, s.len());
-    store(h, s, trailer_of(h, s), buffer);
+    store(header_of(id, s.len()), s, buffer);
     Counted {
         refusal: 0,
         count: (s.len() as u32) + 2,

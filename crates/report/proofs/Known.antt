@@ -11,7 +11,8 @@ use Rattle.tiling.specs.Greedy.{peak, greedy}
 use Rattle.tiling.specs.Tiling.{bestTextBy, rowLengthBy, bestBy, lay, tilingBy}
 use Rattle.tiling.specs.Choice.{firstByWords, firstIsPattern}
 use Rattle.tiling.specs.Listing.{listing, covered, score, shift}
-use Rattle.tiling.specs.Known.{same, shorter, longer}
+use Rattle.buffer.specs.Buffer.{same}
+use Rattle.tiling.specs.Known.{shorter, longer}
 use Rattle.lines.specs.Text.{ascii, digits, decimal, signed, spaced}
 use Rattle.report.specs.Words.{wordsOf}
 use Rattle.report.specs.Pair.{refusedLine, shiftEnd, tileLine, tileLines, opening, closing, pairLines, fromPair, fromSecond, fromFirst, fromWords, pairReport}

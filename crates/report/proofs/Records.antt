@@ -15,7 +15,7 @@ use Rattle.buffer.proofs.Buffer.{length-onto}
 use Rattle.record.specs.Format.{idOf}
 use Rattle.record.specs.Reading.{head, count, sequence, readRefusal, readAnswer, readBuffer}
 use Rattle.record.specs.declared.ReadAnswer.{ReadAnswer}
-use Rattle.record.proofs.Reading.{Accepted, accepted}
+use Rattle.record.proofs.Reading.{Recorded, accepted, accepted-fits}
 use Rattle.report.specs.Pair.{refusedLine, unless, reading, fromPair, fromSecond, fromFirst, fromWords}
 use Rattle.report.specs.Written.{Written}
 
@@ -47,18 +47,19 @@ module _ (src : List ℕ) (a : ReadAnswer) (b b' : List ℕ) (e : a ≡ readAnsw
 
     got : Got src a b'
     got =
-        let h : Accepted src (length b) = accepted src (length b) clear in
+        let h : Recorded src = accepted src (length b) clear in
+        let room : count src ≤ length b = accepted-fits src (length b) clear in
         let counted : a .count ≡ count src = ap (λ x. x .count) e ∙ outcome-accepted (readRefusal src (length b)) (count src) 0 clear in
         let used : a .used ≡ count src + 2 = ap (λ x. x .used) e ∙ outcome-accepted (readRefusal src (length b)) (count src + 2) 0 clear in
         let copied : b' ≡ onto (sequence src) b = k ∙ outcome-accepted (readRefusal src (length b)) (onto (sequence src) b) b clear in
         let size : length (sequence src) ≡ count src = length-take-le (count src) (drop 1 src) (omega (arith, length-drop 1 src, h .whole)) in
-        let long : length b' ≡ length b = ap length copied ∙ length-onto (sequence src) b (omega (arith, h .fits)) in
+        let long : length b' ≡ length b = ap length copied ∙ length-onto (sequence src) b (omega arith) in
         record {
           none = sym number ∙ z;
           id = ap (λ x. x .id) e ∙ outcome-accepted (readRefusal src (length b)) (idOf (head src)) 0 clear;
           used = used;
           whole = omega (arith, h .whole);
-          fits = omega (arith, h .fits);
+          fits = omega arith;
           short = omega (arith, h .short);
           prefix = rw (counted, copied) (take-at (sequence src) (drop (length (sequence src)) b) (count src) size);
         }

@@ -2,7 +2,8 @@
 use Prim.Native.Nat.{ℕ, _+_, _/_, _%_}
 use mathlib.Core.Bool.{Bool, true, _&&_}
 use mathlib.Core.List.{List, [], _∷_, _++_}
-use Rattle.tiling.specs.Known.{same, shorter, longer}
+use Rattle.buffer.specs.Buffer.{same}
+use Rattle.tiling.specs.Known.{shorter, longer}
 use Rattle.lines.specs.Text.{ascii}
 use Rattle.report.specs.Pair.{pairReport}
 

@@ -5,7 +5,7 @@ use lib.IntN.{ℤ}
 use lib.ListN.{length, drop}
 use Rattle.symbol.specs.Refusal.{outcome}
 use Rattle.record.specs.Format.{idOf}
-use Rattle.record.specs.Reading.{head, count, sequence, frame, content}
+use Rattle.record.specs.Reading.{head, count, sequence, fault}
 use Rattle.tiling.specs.Comparing.{sequences, minimums, settings}
 use Rattle.tiling.specs.Listing.{Entry, listing, covered, score, shift}
 use Rattle.lines.specs.Text.{ascii, decimal, signed, phrase, line}
@@ -50,7 +50,7 @@ unless r lines = outcome r lines (refusedLine r)
 
 -- Why a record cannot be read; the buffer for its sequence always suffices.
 abbrev pub reading : List ℕ → ℕ
-reading src = frame src (content src 0)
+reading src = fault src 0
 
 -- Why two sequences cannot be compared: "256 buckets and first search length 20, or the minimum if larger". Workspace and tile buffer
 -- always suffice.

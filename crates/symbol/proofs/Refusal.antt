@@ -1,10 +1,10 @@
 -- A chain of refusals link by link: a cause that holds gives its number, one that does not leaves it to the later causes. And what an
 -- entry point gives that has branched on the number.
 -- Assumes nothing.
-use Prim.Native.Nat.{ℕ, zero, suc, _≤_, _<_}
+use Prim.Native.Nat.{ℕ, zero, suc, _+_, _≤_, _<_}
 use native.Mathlib.Decide.{ℕ-discrete}
 use native.Mathlib.Omega.{arith}
-use mathlib.Core.Path.{_≡_, refl, sym, _∙_}
+use mathlib.Core.Path.{_≡_, refl, sym, _∙_, ap}
 use mathlib.Core.Bool.{Bool, true, false, not}
 use lib.Dec.{eqb, ltb}
 use borrow.Author.Tests.{lt-ltb, le-ltb, eq-eqb, ne-eqb}
@@ -81,15 +81,21 @@ differs a b d = rw (ne-eqb a b d) refl
 pub agrees : (a b : ℕ) → a ≡ b → not (eqb a b) ≡ false
 agrees a b e = rw (eq-eqb a b e) refl
 
--- A bound that was computed.
+-- A bound that was computed, or that adds to a number that was.
 pub short-of : (a r n : ℕ) → r ≡ n → a < r → ltb a n ≡ true
 short-of a r n e h = lt-ltb a n (rw e at h)
 
 pub enough-for : (a r n : ℕ) → r ≡ n → r ≤ a → ltb a n ≡ false
 enough-for a r n e h = le-ltb a n (rw e at h)
 
+pub short-by : (a r n k : ℕ) → r ≡ n → a < r + k → ltb a (n + k) ≡ true
+short-by a r n k e h = short-of a (r + k) (n + k) (ap (λ m. m + k) e) h
+
+pub enough-by : (a r n k : ℕ) → r ≡ n → r + k ≤ a → ltb a (n + k) ≡ false
+enough-by a r n k e h = enough-for a (r + k) (n + k) (ap (λ m. m + k) e) h
+
 -- What the returns of a chain of tests want.
-pub ruleset causes = (refused, passed, cause-of, differs, agrees, short-of, enough-for, lt-ltb, le-ltb, eq-eqb, ne-eqb)
+pub ruleset causes = (refused, passed, cause-of, differs, agrees, short-of, enough-for, short-by, enough-by, lt-ltb, le-ltb, eq-eqb, ne-eqb)
 
 -- ---- an outcome
 pub outcome-refused : {A : Type 0} (r : ℕ) (new old : A) → (r ≡ 0 → ⊥) → outcome r new old ≡ old

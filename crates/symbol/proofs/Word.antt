@@ -2,12 +2,12 @@
 -- Assumes nothing.
 use Prim.Native.Nat.{ℕ, _≤_, _<_, _+_, _/_, _^_}
 use native.Mathlib.Omega.{arith}
-use mathlib.Core.Path.{_≡_, refl, sym}
+use mathlib.Core.Path.{_≡_, refl, sym, _∙_}
 use mathlib.Core.Bool.{Bool, true, false, _&&_, _||_, and-false}
 use lib.Bits.{bitOr, bitXor, or-add-and, xor-add-and, and-le-l, and-le-r, xor-self}
 use lib.Dec.{eqb}
 use borrow.Author.Tests.{eq-eqb, ne-eqb, lt-ltb, eqb-true, ltb-true}
-use Rattle.symbol.specs.Word.{kind, low, code, isCall, Call, isNoCall, isSound, equalCalls}
+use Rattle.symbol.specs.Word.{kind, low, code, isCall, Call, isNoCall, noCall, isSound, equalCalls}
 
 -- ---- a conjunction of tests
 pub and-both : {a b : Bool} → a ≡ true → b ≡ true → (a && b) ≡ true
@@ -89,22 +89,26 @@ half-call w e = call-in w (omega arith) (omega arith)
 pub call-test : (w : ℕ) → eqb (w / 0x1_0000) 0x4000 ≡ isCall w
 call-test w = same _ _ (λ e. half-call w (eqb-true _ _ e)) (λ e. eq-eqb _ _ (call-half w e))
 
-no-call-test : (w : ℕ) → eqb w (2 ^ 31) ≡ isNoCall w
+pub no-call-test : (w : ℕ) → eqb w noCall ≡ isNoCall w
 unfolding isNoCall kind low
 no-call-test w = same _ _ there back
   where
-    there : eqb w (2 ^ 31) ≡ true → isNoCall w ≡ true
-    there e = let one : w ≡ 2 ^ 31 = eqb-true _ _ e in and-both (eq-eqb (kind w) 2 (omega arith)) (eq-eqb (low w) 0 (omega arith))
+    there : eqb w noCall ≡ true → isNoCall w ≡ true
+    there e = let one : w ≡ noCall = eqb-true _ _ e in and-both (eq-eqb (kind w) 2 (omega arith)) (eq-eqb (low w) 0 (omega arith))
 
-    back : isNoCall w ≡ true → eqb w (2 ^ 31) ≡ true
+    back : isNoCall w ≡ true → eqb w noCall ≡ true
     back e =
         let k : kind w ≡ 2 = eqb-true _ _ (and-left _ _ e) in
         let l : low w ≡ 0 = eqb-true _ _ (and-right (eqb (kind w) 2) _ e) in
-        eq-eqb w (2 ^ 31) (omega arith)
+        eq-eqb w noCall (omega arith)
 
-pub sound-test : (w : ℕ) (r : Bool) → r ≡ isCall w → (r || eqb w (2 ^ 31)) ≡ isSound w
+-- A no-call is the one word that is.
+pub no-call-is : (w : ℕ) → isNoCall w ≡ true → w ≡ noCall
+no-call-is w e = eqb-true w noCall (no-call-test w ∙ e)
+
+pub sound-test : (w : ℕ) (r s : Bool) → r ≡ isCall w → s ≡ isNoCall w → (r || s) ≡ isSound w
 unfolding isSound
-sound-test w r e = rw (e, no-call-test w)
+sound-test w r s e f = rw (e, f)
 
 pub calls-test : (a b : ℕ) → eqb (bitOr (bitXor a b) (bitXor (a / 0x1_0000) 0x4000)) 0 ≡ equalCalls a b
 calls-test a b = same _ _ there back

@@ -23,13 +23,20 @@ pub record Call (w : ℕ) : Type 0 where
   pub least : 2 ^ 30 ≤ w
   pub most : w < 2 ^ 30 + 2 ^ 16
 
--- The motif code of a call.
+-- The call of a motif code, and the code of a call.
+abbrev pub call : ℕ → ℕ
+call c = 2 ^ 30 + c
+
 unfoldable pub code : ℕ → ℕ
 code w = w % 2 ^ 16
 
 -- "Kind 2, no-call: bits 29 to 0 zero."
 unfoldable pub isNoCall : ℕ → Bool
 isNoCall w = eqb (kind w) 2 && eqb (low w) 0
+
+-- The one word that is a no-call.
+abbrev pub noCall : ℕ
+noCall = 2 ^ 31
 
 -- A word that may stand in a sequence: "each a call or a no-call".
 unfoldable pub isSound : ℕ → Bool

@@ -1,6 +1,6 @@
 // Words of 32 bits: which may stand in a sequence, which are retired, and which two match.
 ghost use mathlib.Core.Path.{_≡_};
-ghost use Rattle.symbol.specs.Word.{isCall, isSound, isRetired, replaced, equalCalls, matches};
+ghost use Rattle.symbol.specs.Word.{isCall, isNoCall, isSound, isRetired, replaced, equalCalls, matches};
 ghost use Rattle.symbol.specs.Sequence.{allSound, noneRetired};
 
 // The codes that stand for the retired codes 65,000 to 65,015, in that order.
@@ -37,11 +37,18 @@ pub fn is_call(w: u32) -> bool
     w / 0x1_0000 == 0x4000
 }
 
+// Whether a word is the no-call.
+pub fn is_no_call(w: u32) -> bool
+    ensures { λ r. ⌜ r ≡ isNoCall w ⌝ }
+{
+    w == 0x8000_0000
+}
+
 // Whether a word may stand in a sequence: a call or the no-call.
 fn is_sound(w: u32) -> bool
     ensures { λ r. ⌜ r ≡ isSound w ⌝ }
 {
-    is_call(w) | (w == 0x8000_0000)
+    is_call(w) | is_no_call(w)
 }
 
 // Whether a word is a call of a retired code.

@@ -5,7 +5,8 @@ use mathlib.Core.Bool.{Bool, true, false, not, _&&_}
 use mathlib.Core.List.{List, [], _∷_}
 use lib.Dec.{eqb}
 use lib.ListN.{length}
-use Rattle.tiling.specs.Known.{a, b, c, d, e, no-call, shorter, longer}
+use Rattle.symbol.specs.Word.{noCall}
+use Rattle.tiling.specs.Known.{a, b, c, d, e, shorter, longer}
 use Rattle.threshold.specs.Promise.{toldTiles, isReached}
 
 pub record Case : Type 0 where
@@ -44,7 +45,7 @@ cases =
     ∷ record { first = shorter; second = longer; minimum = 3; threshold = 527; reached = false; tiles = 1 }  -- what is left is too short
     ∷ record { first = shorter; second = longer; minimum = 8; threshold = 1; reached = false; tiles = 0 }  -- the pattern is too short
     -- A no-call is free: with it three words could be covered of three.
-    ∷ record { first = a ∷ no-call ∷ b ∷ []; second = a ∷ no-call ∷ c ∷ []; minimum = 1; threshold = 1000; reached = false; tiles = 1 }
+    ∷ record { first = a ∷ noCall ∷ b ∷ []; second = a ∷ noCall ∷ c ∷ []; minimum = 1; threshold = 1000; reached = false; tiles = 1 }
     -- And it does not end a stretch: after the tile of a and b four words in a row could still be covered.
-    ∷ record { first = a ∷ b ∷ c ∷ no-call ∷ d ∷ e ∷ []; second = d ∷ e ∷ a ∷ b ∷ no-call ∷ no-call ∷ []; minimum = 2; threshold = 700; reached = false; tiles = 2 }
+    ∷ record { first = a ∷ b ∷ c ∷ noCall ∷ d ∷ e ∷ []; second = d ∷ e ∷ a ∷ b ∷ noCall ∷ noCall ∷ []; minimum = 2; threshold = 700; reached = false; tiles = 2 }
     ∷ []

@@ -7,14 +7,11 @@ use mathlib.Core.List.{List, [], _∷_}
 use lib.Dec.{eqb}
 use lib.IntN.{ℤ, pos, negsuc, negℤ}
 use lib.ListN.{length}
-use Rattle.symbol.specs.Word.{replaced, matches}
+use Rattle.symbol.specs.Word.{call, noCall, replaced, matches}
+use Rattle.buffer.specs.Buffer.{same}
 use Rattle.window.specs.HashList.{hashes}
 use Rattle.tiling.specs.Choice.{firstIsPattern}
 use Rattle.tiling.specs.Listing.{Entry, listing, tileWords, covered, score, shift}
-
--- The call of a code.
-abbrev pub call : ℕ → ℕ
-call c = 2 ^ 30 + c
 
 -- "Writing a to d for calls of codes 1 to 4 .. e is code 5, ? a no-call."
 abbrev pub a : ℕ
@@ -32,9 +29,6 @@ d = call 4
 abbrev pub e : ℕ
 e = call 5
 
-abbrev pub no-call : ℕ
-no-call = 2 ^ 31
-
 -- A pair with its minimum: the words of its tile buffer, covered and score, or the shifts of its tiles. Words with a multiplier and a
 -- window length: the hashes of their windows. A pair: whether its first sequence is the pattern. Two words: whether they match. A word, and
 -- what it is replaced by.
@@ -45,12 +39,6 @@ pub data Case : Type 0 where
   chosen : (first second : List ℕ) (first-is-pattern : Bool) → Case
   matched : (x y : ℕ) (they-match : Bool) → Case
   stands-for : (x y : ℕ) → Case
-
-unfoldable pub same : List ℕ → List ℕ → Bool
-same [] [] = true
-same [] (y ∷ ys) = false
-same (x ∷ xs) [] = false
-same (x ∷ xs) (y ∷ ys) = eqb x y && same xs ys
 
 unfoldable pub sameℤ : ℤ → ℤ → Bool
 sameℤ (pos m) (pos n) = eqb m n
@@ -93,7 +81,7 @@ cases =
     pair [] [] 1 [] 0 0  -- K1
     ∷ pair (a ∷ []) (a ∷ []) 1 (0 ∷ 0 ∷ 1 ∷ []) 1 1000  -- K2
     ∷ pair (a ∷ []) (a ∷ []) 2 [] 0 0  -- K3
-    ∷ pair (no-call ∷ []) (no-call ∷ []) 1 [] 0 0  -- K4
+    ∷ pair (noCall ∷ []) (noCall ∷ []) 1 [] 0 0  -- K4
     ∷ pair shorter longer 2 (1 ∷ 7 ∷ 5 ∷ []) 5 526  -- K5
     ∷ pair shorter longer 1 (1 ∷ 7 ∷ 5 ∷ 0 ∷ 4 ∷ 1 ∷ 6 ∷ 3 ∷ 1 ∷ []) 7 736  -- K6
     ∷ pair (a ∷ b ∷ []) (b ∷ a ∷ []) 1 (0 ∷ 1 ∷ 1 ∷ 1 ∷ 0 ∷ 1 ∷ []) 2 1000  -- K7
@@ -109,14 +97,14 @@ cases =
     ∷ pair (b ∷ a ∷ []) (a ∷ b ∷ []) 1 (1 ∷ 0 ∷ 1 ∷ 0 ∷ 1 ∷ 1 ∷ []) 2 1000  -- K7 exchanged: its sides exchanged
     ∷ pair (b ∷ b ∷ a ∷ b ∷ []) (a ∷ b ∷ b ∷ b ∷ []) 2 (2 ∷ 0 ∷ 2 ∷ 0 ∷ 2 ∷ 2 ∷ []) 4 1000  -- the smaller word chooses the second
     ∷ pair (a ∷ b ∷ b ∷ b ∷ []) (b ∷ b ∷ a ∷ b ∷ []) 2 (0 ∷ 2 ∷ 2 ∷ 2 ∷ 0 ∷ 2 ∷ []) 4 1000  -- the same exchanged
-    ∷ pair (no-call ∷ a ∷ b ∷ []) (no-call ∷ b ∷ a ∷ []) 1 (1 ∷ 2 ∷ 1 ∷ 2 ∷ 1 ∷ 1 ∷ []) 2 666  -- no-calls do not match, nor differ
-    ∷ pair (no-call ∷ b ∷ b ∷ a ∷ b ∷ []) (a ∷ b ∷ b ∷ b ∷ no-call ∷ []) 2 (3 ∷ 0 ∷ 2 ∷ 1 ∷ 2 ∷ 2 ∷ []) 4 800  -- a no-call is greater
-    ∷ pair (a ∷ b ∷ no-call ∷ a ∷ []) (no-call ∷ b ∷ no-call ∷ a ∷ []) 1 (0 ∷ 3 ∷ 1 ∷ 1 ∷ 1 ∷ 1 ∷ []) 2 500  -- it alone differs
-    ∷ pair (a ∷ a ∷ no-call ∷ a ∷ a ∷ []) (a ∷ a ∷ no-call ∷ a ∷ a ∷ []) 1 (0 ∷ 0 ∷ 2 ∷ 3 ∷ 3 ∷ 2 ∷ []) 4 800  -- equal: equal starts
+    ∷ pair (noCall ∷ a ∷ b ∷ []) (noCall ∷ b ∷ a ∷ []) 1 (1 ∷ 2 ∷ 1 ∷ 2 ∷ 1 ∷ 1 ∷ []) 2 666  -- no-calls do not match, nor differ
+    ∷ pair (noCall ∷ b ∷ b ∷ a ∷ b ∷ []) (a ∷ b ∷ b ∷ b ∷ noCall ∷ []) 2 (3 ∷ 0 ∷ 2 ∷ 1 ∷ 2 ∷ 2 ∷ []) 4 800  -- a no-call is greater
+    ∷ pair (a ∷ b ∷ noCall ∷ a ∷ []) (noCall ∷ b ∷ noCall ∷ a ∷ []) 1 (0 ∷ 3 ∷ 1 ∷ 1 ∷ 1 ∷ 1 ∷ []) 2 500  -- it alone differs
+    ∷ pair (a ∷ a ∷ noCall ∷ a ∷ a ∷ []) (a ∷ a ∷ noCall ∷ a ∷ a ∷ []) 1 (0 ∷ 0 ∷ 2 ∷ 3 ∷ 3 ∷ 2 ∷ []) 4 800  -- equal: equal starts
     ∷ chosen (a ∷ b ∷ a ∷ []) (a ∷ b ∷ b ∷ []) true  -- they differ at the last position only
     ∷ chosen (a ∷ b ∷ b ∷ []) (a ∷ b ∷ a ∷ []) false
     ∷ chosen (a ∷ c ∷ a ∷ []) (a ∷ b ∷ b ∷ []) false  -- the first difference counts, not the last
-    ∷ chosen (a ∷ no-call ∷ []) (a ∷ no-call ∷ []) true  -- none differs: the first
+    ∷ chosen (a ∷ noCall ∷ []) (a ∷ noCall ∷ []) true  -- none differs: the first
     ∷ chosen (c ∷ []) (a ∷ b ∷ []) true  -- the shorter one, whatever its words
     ∷ matched 0x4000_0000 0x4000_0000 true  -- the calls of the first and of the last code
     ∷ matched 0x4000_ffff 0x4000_ffff true

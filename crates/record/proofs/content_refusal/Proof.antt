@@ -2,7 +2,6 @@
 -- the right sum.
 -- Assumes nothing.
 use Rattle.symbol.proofs.Refusal.{causes}
-use Rattle.record.specs.Format.{countOf}
 use Rattle.record.proofs.Reading.{sound-cause, close-passed, close-refused}
 use borrow.Author.Needs.{needs}
 use Rattle.record.proofs.content_refusal.Statement.{statement}
@@ -11,8 +10,8 @@ use Rattle.record.proofs.content_refusal.Tie as tie
 shared-slice-read-h : tie.Need-shared-slice-read-h
 shared-slice-read-h c = search needs
 
-cast-count : tie.Need-cast-count
-cast-count c = search needs
+count-of-requires : tie.Need-count-of-requires
+count-of-requires c κs = search needs
 
 add-s : tie.Need-add-s
 add-s c = search needs
@@ -24,14 +23,12 @@ part-s-start : tie.Need-part-s-start
 part-s-start c = search needs
 
 part-s-end : tie.Need-part-s-end
-unfolding countOf
 part-s-end c = search needs
 
 all-sound-requires : tie.Need-all-sound-requires
 all-sound-requires c κs = search needs
 
 returns : tie.Need-returns
-unfolding countOf
 returns c = search (causes, sound-cause)
 
 add-if2 : tie.Need-add-if2
@@ -41,18 +38,15 @@ mul-if2 : tie.Need-mul-if2
 mul-if2 c = search needs
 
 shared-slice-read-if2 : tie.Need-shared-slice-read-if2
-unfolding countOf
 shared-slice-read-if2 c = search needs
 
 trailer-of-requires : tie.Need-trailer-of-requires
 trailer-of-requires c κs = search needs
 
 returns-2 : tie.Need-returns-2
-unfolding countOf
 returns-2 c = search (causes, sound-cause, close-refused)
 
 returns-3 : tie.Need-returns-3
-unfolding countOf
 returns-3 c = search (causes, sound-cause, close-passed)
 
 pub content-refusal-spec : {M : Type 1} → statement M
@@ -60,7 +54,7 @@ content-refusal-spec =
     tie.close
     (tie.spec
     shared-slice-read-h
-    cast-count
+    count-of-requires
     add-s
     sub-s
     part-s-start

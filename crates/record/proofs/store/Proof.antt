@@ -1,6 +1,6 @@
 -- `record::store` meets its contract: each store goes just after the words already written.
 -- Assumes nothing.
-use Rattle.record.proofs.Writing.{stored}
+use Rattle.record.proofs.Writing.{closed}
 use borrow.Author.Needs.{needs}
 use Rattle.record.proofs.store.Statement.{statement}
 use Rattle.record.proofs.store.Tie as tie
@@ -23,17 +23,14 @@ part-copy-end c = search needs
 copy-requires : tie.Need-copy-requires
 copy-requires c κs = search needs
 
-add-put : tie.Need-add-put
-add-put c = search needs
-
-put-requires-2 : tie.Need-put-requires-2
-put-requires-2 c κs = search needs
+close-requires : tie.Need-close-requires
+close-requires c κs = search needs
 
 same-length : tie.Need-same-length
 same-length c = search needs
 
 returns : tie.Need-returns
-returns c = search stored
+returns c = search closed
 
 pub store-spec : {M : Type 1} → statement M
 store-spec =
@@ -45,7 +42,6 @@ store-spec =
     part-copy-start
     part-copy-end
     copy-requires
-    add-put
-    put-requires-2
+    close-requires
     same-length
     returns)

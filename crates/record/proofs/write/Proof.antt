@@ -22,17 +22,14 @@ returns c = (search counted-none, search kept)
 header-of-requires : tie.Need-header-of-requires
 header-of-requires c κs = omega (arith, here c)
 
-trailer-of-requires : tie.Need-trailer-of-requires
-trailer-of-requires c κs = search needs
-
 store-requires : tie.Need-store-requires
-store-requires c κs = omega (arith, here (c .before .before .before))
+store-requires c κs = omega (arith, here (c .before .before))
 
-cast-t9 : tie.Need-cast-t9
-cast-t9 c = omega (arith, here (c .before .before .before .before .before .before))
+cast-t8 : tie.Need-cast-t8
+cast-t8 c = omega (arith, here (c .before .before .before .before .before))
 
-add-t12 : tie.Need-add-t12
-add-t12 c = omega (arith, here (c .before .before .before .before .before .before))
+add-t11 : tie.Need-add-t11
+add-t11 c = omega (arith, here (c .before .before .before .before .before))
 
 same-length : tie.Need-same-length
 same-length c = search needs
@@ -47,9 +44,8 @@ write-spec =
     write-refusal-requires
     returns
     header-of-requires
-    trailer-of-requires
     store-requires
-    cast-t9
-    add-t12
+    cast-t8
+    add-t11
     same-length
     returns-2)

@@ -1,0 +1,4 @@
+pub mod Word
+pub mod Merging
+pub mod Laws
+pub mod Known
