@@ -9,7 +9,7 @@ use mathlib.Core.Logic.{inl, inr}
 use mathlib.Core.Bool.{Bool, true, false}
 use mathlib.Core.List.{List, [], _∷_, map}
 use lib.ListN.{length, getD}
-use Rattle.symbol.specs.Word.{kind, low, isCall, isNoCall, noCall, isSound, replaced, matches}
+use Rattle.symbol.specs.Word.{kind, low, isCall, isNoCall, noCall, isSound, replaced, equalCalls, matches}
 use Rattle.symbol.specs.Sequence.{every, allSound}
 use Rattle.symbol.proofs.Word.{and-both, and-left, and-right, no-call-is}
 use Rattle.symbol.proofs.Retired.{match-equal, match-self, match-swap, no-match-left}
@@ -99,17 +99,22 @@ either-equal a b e = go (isNoCall a) (isNoCall b) refl refl
     go false true f g = word-first a b e f g ∙ sym (word-second b a (other-way a b e) g)
     go false false f g = word-conflict a b e f g ∙ sym (word-conflict b a (other-way a b e) g f)
 
-pub either-first : (a b : ℕ) → EitherFirst a b
-either-first a b =
-    record {
-      alike = go (matches a b) refl;
-      equal = either-equal a b;
-      first-kept = λ e. (word-agreed a b e, word-agreed b a (match-swap a b e));
-    }
+either-alike : (a b : ℕ) → replaced (mergedWord a b) ≡ replaced (mergedWord b a)
+either-alike a b = go (matches a b) refl
   where
     go : (x : Bool) → matches a b ≡ x → replaced (mergedWord a b) ≡ replaced (mergedWord b a)
     go true e = rw (word-agreed a b e, word-agreed b a (match-swap a b e)) (match-equal a b e)
     go false e = ap replaced (either-equal a b e)
+
+pub either-first : (a b : ℕ) → EitherFirst a b
+unfolding matches
+either-first a b =
+    record {
+      alike = either-alike a b;
+      like = λ w. ap (λ x. equalCalls x (replaced w)) (either-alike a b);
+      equal = either-equal a b;
+      first-kept = λ e. (word-agreed a b e, word-agreed b a (match-swap a b e));
+    }
 
 -- ---- three typings
 pub order-matters : (a b : ℕ) → isCall a ≡ true → isCall b ≡ true → matches a b ≡ false → OrderMatters a b
@@ -170,4 +175,4 @@ unfolding merged
 merged-alike [] [] = refl
 merged-alike [] (b ∷ t) = refl
 merged-alike (a ∷ s) [] = refl
-merged-alike (a ∷ s) (b ∷ t) = rw (either-first b a .alike, merged-alike s t) refl
+merged-alike (a ∷ s) (b ∷ t) = rw (either-alike b a, merged-alike s t) refl

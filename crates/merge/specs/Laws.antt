@@ -27,10 +27,11 @@ pub record NotInvented (a b w : ℕ) : Type 0 where
   pub from : From a b w
   pub allowed : isCall w ≡ true → Allows w a × Allows w b
 
--- Both ways round: the same once retired codes are replaced. As they stand the two ways differ only where both typings have a call and
--- these match; each way then keeps its first's.
+-- Both ways round: the same once retired codes are replaced, so that they match the same words. As they stand they differ only where both
+-- typings have a call and these match; each way then keeps its first's.
 pub record EitherFirst (a b : ℕ) : Type 0 where
   pub alike : replaced (mergedWord a b) ≡ replaced (mergedWord b a)
+  pub like : (w : ℕ) → matches (mergedWord a b) w ≡ matches (mergedWord b a) w
   pub equal : matches a b ≡ false → mergedWord a b ≡ mergedWord b a
   pub first-kept : matches a b ≡ true → (mergedWord a b ≡ a) × (mergedWord b a ≡ b)
 
