@@ -11,7 +11,7 @@ use mathlib.Core.List.{List, [], _∷_, map}
 use lib.ListN.{length, getD}
 use Rattle.symbol.specs.Word.{kind, low, isCall, isNoCall, noCall, isSound, replaced, equalCalls, matches}
 use Rattle.symbol.specs.Sequence.{every, allSound}
-use Rattle.symbol.proofs.Word.{and-both, and-left, and-right, no-call-is}
+use Rattle.symbol.proofs.Word.{and-both, and-left, and-right, no-call-is, calls-equal, calls-call}
 use Rattle.symbol.proofs.Retired.{match-equal, match-self, match-swap, no-match-left}
 use Rattle.merge.specs.Word.{mergedWord, merged}
 use Rattle.merge.specs.Laws.{NotInvented, EitherFirst, OrderMatters}
@@ -34,7 +34,12 @@ module _ (a b : ℕ) where
   unfolding mergedWord
   word-conflict e f g = rw (mergedWord, e, f, g) refl
 
--- The same as the code tests them, in their order.
+-- The same as the code tests them, in their order. Equal calls match as they stand.
+pub take-equal : (a b : ℕ) (x : Bool) → x ≡ equalCalls a b → x ≡ true → a ≡ mergedWord a b
+take-equal a b x e t =
+    let equal : equalCalls a b ≡ true = sym e ∙ t in
+    sym (word-agreed a b (rw (← calls-equal a b equal) (match-self a (calls-call a b equal))))
+
 module _ (a b : ℕ) (x : Bool) (e : x ≡ matches a b) where
   pub take-agreed : x ≡ true → a ≡ mergedWord a b
   take-agreed t = sym (word-agreed a b (sym e ∙ t))

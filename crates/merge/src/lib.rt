@@ -10,9 +10,13 @@ ghost use Rattle.merge.specs.Word.{mergedWord, merged};
 ghost use Rattle.merge.specs.Merging.{pairRefusal, mergeRefusal, mergeAnswer, mergeBuffer};
 
 // What two typings say of one position: the first's word where they match, the other's where one is the no-call, else the no-call.
+// Most words are equal calls as they stand, so that is asked first, which spares a look at the table of retired codes.
 fn merged_word(a: u32, b: u32) -> u32
     ensures { λ r. ⌜ r ≡ mergedWord a b ⌝ }
 {
+    if symbol::equal_calls(a, b) {
+        return a;
+    }
     if symbol::words_match(a, b) {
         return a;
     }
