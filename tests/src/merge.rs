@@ -104,8 +104,8 @@ pub fn known(g: &mut Group) {
         let pair = [record(7, &[a]), record(7, &[b])];
         let found = merged([&pair[0], &pair[1]]);
         g.equal(case, found, record(7, &[due]));
-        let reference = merged_words(&[a], &[b]);
-        g.equal(case, reference, vec![due]);
+        g.equal(case, merged_words(&[a], &[b]), vec![due]);
+        merge(g, case, [&pair[0], &pair[1]], 3, Some(0));
     }
     // Fish 12: 1 - 3 4 - and 1 2 - 1 -.
     let [a, b, c, d] = [1, 2, 3, 4].map(call);

@@ -64,28 +64,21 @@ static READ_WRITE: Column = Column {
     heeds: Heeds::Nothing,
 };
 
+// A limit is set against the loop alone. The other column only shows what is left for comparing words: both readings and
+// the writing copy several words at once.
 static TABLE: Table = Table {
     name: "merging",
     about: &[],
     columns: &[&MERGE, &LOOP, &READ_WRITE],
     ratios: &[(&MERGE, &LOOP), (&MERGE, &READ_WRITE)],
     promises: &[],
-    everywhere: &[
-        Everywhere {
-            measure: Measure::Ratio(&MERGE, &LOOP),
-            most: 4.0,
-            rows: Rows::All,
-            others: &[],
-            exceptions: &[],
-        },
-        Everywhere {
-            measure: Measure::Ratio(&MERGE, &READ_WRITE),
-            most: 4.0,
-            rows: Rows::All,
-            others: &[],
-            exceptions: &[],
-        },
-    ],
+    everywhere: &[Everywhere {
+        measure: Measure::Ratio(&MERGE, &LOOP),
+        most: 3.0,
+        rows: Rows::All,
+        others: &[],
+        exceptions: &[],
+    }],
     least: USUAL,
 };
 

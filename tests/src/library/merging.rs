@@ -28,13 +28,13 @@ pub fn merges(g: &mut Group) {
         let mut left = buffer.clone();
         let answer = merging::merge(&first, &second, &mut left);
         let case = format_args!("typings {number}, {length} words");
-        let result = merge(&first, &second, &mut buffer);
-        if let Ok(count) = result {
+        let result = numbered(merge(&first, &second, &mut buffer));
+        let due = expected(answer.refusal, answer.count as usize);
+        g.equal(case, result, due);
+        if let Ok(count) = due {
             let rows = records(&buffer[..count]).map(|entry| entry.map(|it| it.sequence.len()));
             g.equal(case, Vec::from_iter(rows), vec![Ok(count - 2)]);
         }
-        let due = expected(answer.refusal, answer.count as usize);
-        g.equal(case, numbered(result), due);
         g.equal(case, &buffer, &left);
     }
 }
