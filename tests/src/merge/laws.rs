@@ -6,7 +6,7 @@ use crate::group::Group;
 use crate::pairs::Sides;
 use crate::records::LENGTHS;
 use crate::reference::{matches, read, record, replaced_words};
-use crate::samples::{any_length, NO_CALL};
+use crate::samples::{any_length, NO_CALL, ORDERS};
 use sigxume::raw::{self, ReadAnswer};
 
 /// The sequence of a whole record.
@@ -151,16 +151,8 @@ pub fn three(g: &mut Group) {
         let [a, b] = typings(&mut g.random, length);
         let c = retyped(&mut g.random, &a);
         let typed = [&a[..], &b, &c];
-        let orders = [
-            [0, 1, 2],
-            [0, 2, 1],
-            [1, 0, 2],
-            [1, 2, 0],
-            [2, 0, 1],
-            [2, 1, 0],
-        ];
-        let all = orders.into_iter().flat_map(|order| {
-            let [x, y, z] = order.map(|at: usize| typed[at]);
+        let all = ORDERS.into_iter().flat_map(|order| {
+            let [x, y, z] = order.map(|at| typed[at]);
             let left = joined(id, &joined(id, x, y), z);
             let right = joined(id, x, &joined(id, y, z));
             [left, right].map(|words| replaced_words(&words))
