@@ -878,7 +878,8 @@ static sigxume_counted merge_once(
     struct slice a = lend(FIRST, first, n, plan->null);
     /* What is only read may be one slice. */
     struct slice b = first == second && n == m ? a : lend(SECOND, second, m, plan->null);
-    struct slice out = lend(TILES, NULL, room_of(count + 2, plan->room[2]), plan->null);
+    size_t room = room_of(count + 2, plan->room[2]);
+    struct slice out = lend(TILES, NULL, plan->room[1] == 1 ? room / 2 : room, plan->null);
     sigxume_counted answer = sigxume_merge(a.at, a.len, b.at, b.len, out.at, out.len);
     MUST(answer.refusal == merge_refusal(plan, first, n, second, m, out.len));
     must_keep(a, 0);
@@ -1100,12 +1101,13 @@ static void add_pair(const uint32_t *first, size_t n, const uint32_t *second, si
     add(second, m);
 }
 
+/* A record, also one of too many words. */
 static void add_record(uint16_t id, const uint32_t *sequence, size_t count)
 {
-    static uint32_t record[SIGXUME_MAX_RECORD_WORDS];
-    sigxume_counted written = sigxume_write(id, sequence, count, record, SIGXUME_MAX_RECORD_WORDS);
-    MUST(written.refusal == 0);
-    add(record, written.count);
+    uint32_t header = (uint32_t)id << 14 | (uint32_t)count, last = trailer(header, sequence, count);
+    add(&header, 1);
+    add(sequence, count);
+    add(&last, 1);
 }
 
 /* Two records to merge. */
@@ -1128,10 +1130,10 @@ static void end(const char *folder)
 
 int main(int argc, char **argv)
 {
-    static const size_t sizes[] = {0, 1, 2, 7, 8, 9, 64, 300, 2047, 2048};
+    static const size_t sizes[] = {0, 1, 2, 7, 8, 9, 64, 300, 2047, 2048, 2049};
     static const uint32_t minimums[] = {1, 2, 20, 256};
     static const uint32_t thresholds[] = {0, 300, 900, 1000};
-    static uint32_t first[SIGXUME_MAX_WORDS], second[SIGXUME_MAX_WORDS];
+    static uint32_t first[SIGXUME_MAX_WORDS + 1], second[SIGXUME_MAX_WORDS + 1];
     MUST(argc == 2);
     const char *folder = argv[1];
 
@@ -1173,6 +1175,14 @@ int main(int argc, char **argv)
         add_records((uint16_t)(65535 - n), first, second, n);
         end(folder);
     }
+
+    for (size_t i = 0; i < 16; i++) {
+        first[i] = second[i + 16] = SIGXUME_CALL(65000 + i);
+        second[i] = first[i + 16] = SIGXUME_CALL(replacements[i]);
+    }
+    begin(MERGE, 0, 0, 0, 0);
+    add_records(12, first, second, 32);
+    end(folder);
 
     /* The second sequence is the first with its two thirds exchanged and a word changed now and then. */
     for (size_t k = 0; k < sizeof sizes / sizeof *sizes; k++) {
