@@ -270,7 +270,7 @@ pub fn held(g: &mut Group) {
     }
 }
 
-/// Random typings of any length, some with words after them, into buffers around their size.
+/// Random typings of any length, some with words after them, into buffers around their size, of which some hold the first.
 pub fn random(g: &mut Group) {
     for number in 0..20_000 {
         let random = &mut g.random;
@@ -284,8 +284,12 @@ pub fn random(g: &mut Group) {
         }
         let room = random.pick(&[length + 1, length + 2, length + 2, length + 3, length + 40]);
         let refusal = due([(room < length + 2, ROOM)]);
+        let held = match random.below(4) {
+            0 => Vec::from_iter(pair[0].iter().copied().cycle().take(room)),
+            _ => random.words(room),
+        };
         let case = format_args!("typings {number}, {length} words, room {room}");
-        merge(g, case, [&pair[0], &pair[1]], room, Some(refusal));
+        merge_holding(g, case, [&pair[0], &pair[1]], held, Some(refusal));
     }
     // Every spelling of every code that has more than one.
     for (_, new) in RETIRED {
