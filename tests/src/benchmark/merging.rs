@@ -16,6 +16,10 @@ const SEED: u64 = 3;
 /// Of so many words one is a no-call in the first typing, one in the second, and one was called otherwise.
 const ONE_IN: usize = 20;
 
+/// What two typings mostly look like.
+const ALIKE: &str = "alike";
+const USUALLY: &str = "1 in 20 not called, 1 in conflict";
+
 /// The fish of all records.
 const ID: u16 = 12;
 
@@ -64,8 +68,7 @@ static READ_WRITE: Column = Column {
     heeds: Heeds::Nothing,
 };
 
-// A limit is set against the loop alone. The other column only shows what is left for comparing words: both readings and
-// the writing copy several words at once.
+// The limits are set against the loop, which does the same work; reading and writing do less.
 static TABLE: Table = Table {
     name: "merging",
     about: &[],
@@ -74,9 +77,9 @@ static TABLE: Table = Table {
     promises: &[],
     everywhere: &[Everywhere {
         measure: Measure::Ratio(&MERGE, &LOOP),
-        most: 3.0,
+        most: 1.5,
         rows: Rows::All,
-        others: &[],
+        others: &[(ALIKE, 1.0), (USUALLY, 1.0)],
         exceptions: &[],
     }],
     least: USUAL,
@@ -172,8 +175,8 @@ fn typings(random: &mut Random) -> Vec<(&'static str, Pair)> {
     let retired = rows.map(|(retired, _)| call(retired)).to_vec();
     let new = rows.map(|(_, new)| call(new)).to_vec();
     let all = [
-        ("alike", [words.clone(), words.clone()]),
-        ("1 in 20 not called, 1 in conflict", [first, second]),
+        (ALIKE, [words.clone(), words.clone()]),
+        (USUALLY, [first, second]),
         ("all in conflict", [words, apart]),
         ("retired codes against their own", [retired, new]),
     ];
