@@ -28,7 +28,7 @@ static void fail(const char *what, int line)
 }
 
 /* What an input asks for. */
-enum { WORDS, READ, READ_ALL, WRITE, HASHES, COMPARE, PAIR, COVER, AT_LEAST, KINDS };
+enum { WORDS, READ, READ_ALL, WRITE, HASHES, COMPARE, PAIR, COVER, AT_LEAST, MERGE, KINDS };
 
 enum {
     PLAN = 28,
@@ -67,6 +67,7 @@ enum {
     SAW_HASHES,
     SAW_CURVE,
     SAW_DECIDED,
+    SAW_MERGED,
     SIGHTS
 };
 
@@ -293,6 +294,22 @@ static uint32_t threshold_refusal(
         {5, plan->start < plan->minimum || plan->start > 2048},
         {6, workspace < 4 * (n + m)},
         {12, plan->threshold > 1000},
+    };
+    return FIRST_OF(plan, causes);
+}
+
+/* Each record's own causes are those of reading it into a buffer that is always long enough. */
+static uint32_t merge_refusal(
+    const struct plan *plan, const uint32_t *first, size_t n, const uint32_t *second, size_t m, size_t room)
+{
+    uint32_t of_first = read_refusal(plan, first, n, (size_t)-1), of_second = read_refusal(plan, second, m, (size_t)-1);
+    uint32_t differ = n != 0 && m != 0 ? first[0] ^ second[0] : 0;
+    struct cause causes[] = {
+        {of_first, of_first != 0},
+        {of_second, of_second != 0},
+        {13, differ >> 14 != 0},
+        {14, differ % (1u << 14) != 0},
+        {11, n != 0 && room < first[0] % (1u << 14) + 2},
     };
     return FIRST_OF(plan, causes);
 }
@@ -853,6 +870,64 @@ static void try_at_least(const struct plan *plan, const uint32_t *first, size_t 
     }
 }
 
+/* Merges two records into a buffer, which is copied to merged where it is accepted. */
+static sigxume_counted merge_once(
+    const struct plan *plan, const uint32_t *first, size_t n, const uint32_t *second, size_t m, uint32_t *merged)
+{
+    size_t count = n != 0 ? first[0] % (1u << 14) : 0;
+    struct slice a = lend(FIRST, first, n, plan->null);
+    /* What is only read may be one slice. */
+    struct slice b = first == second && n == m ? a : lend(SECOND, second, m, plan->null);
+    size_t room = room_of(count + 2, plan->room[2]);
+    struct slice out = lend(TILES, NULL, plan->room[1] == 1 ? room / 2 : room, plan->null);
+    sigxume_counted answer = sigxume_merge(a.at, a.len, b.at, b.len, out.at, out.len);
+    MUST(answer.refusal == merge_refusal(plan, first, n, second, m, out.len));
+    must_keep(a, 0);
+    must_keep(b, 0);
+    saw(SAW_REFUSAL, plan->kind, answer.refusal);
+    if (answer.refusal != 0) {
+        MUST(answer.count == 0);
+        must_keep(out, 0);
+        return answer;
+    }
+    MUST(answer.count == count + 2);
+    must_keep(out, answer.count);
+    memcpy(merged, out.at, answer.count * sizeof *merged);
+    return answer;
+}
+
+static void try_merge(const struct plan *plan, const uint32_t *first, size_t n, const uint32_t *second, size_t m)
+{
+    static uint32_t merged[SIGXUME_MAX_RECORD_WORDS], turned[SIGXUME_MAX_RECORD_WORDS];
+    sigxume_counted answer = merge_once(plan, first, n, second, m, merged);
+    if (answer.refusal != 0)
+        return;
+    size_t count = answer.count - 2, kinds = 0;
+    MUST(merged[0] == first[0] && merged[count + 1] == trailer(first[0], merged + 1, count));
+    for (size_t i = 1; i <= count; i++) {
+        uint32_t a = first[i], b = second[i];
+        bool both = is_call(a) && is_call(b), alike = match(a, b);
+        MUST(merged[i] == (alike ? a : both ? SIGXUME_NO_CALL : is_call(a) ? a : b));
+        kinds |= 1u << (alike ? a != b : both ? 2 : is_call(a) ? 3 : is_call(b) ? 4 : 5);
+    }
+    saw(SAW_MERGED, kinds, bits(count));
+    struct plan exact = *plan;
+    memset(exact.room, 0, sizeof exact.room);
+    sigxume_read_answer read = try_read(&exact, merged, answer.count, count);
+    MUST(read.refusal == 0 && read.id == first[0] >> 14 && read.count == count);
+
+    /* The other way round the words are the same once replaced, and each way keeps its first's. */
+    MUST(merge_once(&exact, second, m, first, n, turned).refusal == 0);
+    for (size_t i = 1; i <= count; i++) {
+        MUST(replaced(merged[i]) == replaced(turned[i]));
+        MUST(merged[i] == turned[i] || (merged[i] == first[i] && turned[i] == second[i]));
+    }
+
+    /* With itself it is given back. */
+    MUST(merge_once(&exact, merged, answer.count, merged, answer.count, turned).refusal == 0);
+    MUST(memcmp(merged, turned, answer.count * sizeof *merged) == 0);
+}
+
 /* The input of the pair program: a minimum, then two records. */
 static void try_pair(const struct plan *plan, const uint32_t *words, size_t len)
 {
@@ -912,7 +987,7 @@ static struct plan plan_of(const uint8_t *bytes)
 /* The words of an input after its plan. Records are always words as they are. */
 static size_t words_of(const struct plan *plan, const uint8_t *bytes, size_t size, uint32_t *words)
 {
-    bool records = plan->kind == READ || plan->kind == READ_ALL || plan->kind == PAIR;
+    bool records = plan->kind == READ || plan->kind == READ_ALL || plan->kind == PAIR || plan->kind == MERGE;
     bool narrow = plan->bytes && !records;
     size_t len = narrow ? size : size / 4;
     if (len > MOST)
@@ -929,6 +1004,12 @@ static size_t words_of(const struct plan *plan, const uint8_t *bytes, size_t siz
     return len;
 }
 
+/* Where the second of two slices begins that an input is cut into. */
+static size_t cut_of(const struct plan *plan, size_t len)
+{
+    return plan->itself ? len : plan->halves ? len / 2 : plan->cut % (len + 1);
+}
+
 static void try_plan(const struct plan *plan, const uint32_t *words, size_t len)
 {
     switch (plan->kind) {
@@ -939,13 +1020,15 @@ static void try_plan(const struct plan *plan, const uint32_t *words, size_t len)
     case HASHES: try_hashes(plan, words, len); break;
     case PAIR: try_pair(plan, words, len); break;
     default: {
-        size_t cut = plan->itself ? len : plan->halves ? len / 2 : plan->cut % (len + 1);
+        size_t cut = cut_of(plan, len);
         const uint32_t *second = plan->itself ? words : words + cut;
         size_t m = plan->itself || plan->halves ? cut : len - cut;
         if (plan->kind == COVER)
             try_cover(plan, words, cut, second, m);
         else if (plan->kind == AT_LEAST)
             try_at_least(plan, words, cut, second, m);
+        else if (plan->kind == MERGE)
+            try_merge(plan, words, cut, second, m);
         else
             try_compare(plan, words, cut, second, m);
     }
@@ -1018,12 +1101,22 @@ static void add_pair(const uint32_t *first, size_t n, const uint32_t *second, si
     add(second, m);
 }
 
+/* A record, also one of too many words. */
 static void add_record(uint16_t id, const uint32_t *sequence, size_t count)
 {
-    static uint32_t record[SIGXUME_MAX_RECORD_WORDS];
-    sigxume_counted written = sigxume_write(id, sequence, count, record, SIGXUME_MAX_RECORD_WORDS);
-    MUST(written.refusal == 0);
-    add(record, written.count);
+    uint32_t header = (uint32_t)id << 14 | (uint32_t)count, last = trailer(header, sequence, count);
+    add(&header, 1);
+    add(sequence, count);
+    add(&last, 1);
+}
+
+/* Two records to merge. */
+static void add_records(uint16_t id, const uint32_t *first, const uint32_t *second, size_t count)
+{
+    input[4] = (uint8_t)(count + 2);
+    input[5] = (uint8_t)((count + 2) >> 8);
+    add_record(id, first, count);
+    add_record(id, second, count);
 }
 
 static void end(const char *folder)
@@ -1037,10 +1130,10 @@ static void end(const char *folder)
 
 int main(int argc, char **argv)
 {
-    static const size_t sizes[] = {0, 1, 2, 7, 8, 9, 64, 300, 2047, 2048};
+    static const size_t sizes[] = {0, 1, 2, 7, 8, 9, 64, 300, 2047, 2048, 2049};
     static const uint32_t minimums[] = {1, 2, 20, 256};
     static const uint32_t thresholds[] = {0, 300, 900, 1000};
-    static uint32_t first[SIGXUME_MAX_WORDS], second[SIGXUME_MAX_WORDS];
+    static uint32_t first[SIGXUME_MAX_WORDS + 1], second[SIGXUME_MAX_WORDS + 1];
     MUST(argc == 2);
     const char *folder = argv[1];
 
@@ -1069,6 +1162,28 @@ int main(int argc, char **argv)
     add_pair(first, 7, second, 7);
     end(folder);
 
+    /* Two typings of one fish: matched, spelled otherwise, in conflict, called in one alone and in none. */
+    first[0] = second[0] = first[3] = SIGXUME_CALL(1);
+    first[1] = SIGXUME_CALL(65001);
+    second[1] = SIGXUME_CALL(14);
+    first[2] = SIGXUME_CALL(2);
+    second[2] = SIGXUME_CALL(65000);
+    first[4] = second[3] = first[5] = second[5] = SIGXUME_NO_CALL;
+    second[4] = SIGXUME_CALL(65015);
+    for (size_t n = 0; n <= 6; n++) {
+        begin(MERGE, 0, 0, 0, 0);
+        add_records((uint16_t)(65535 - n), first, second, n);
+        end(folder);
+    }
+
+    for (size_t i = 0; i < 16; i++) {
+        first[i] = second[i + 16] = SIGXUME_CALL(65000 + i);
+        second[i] = first[i + 16] = SIGXUME_CALL(replacements[i]);
+    }
+    begin(MERGE, 0, 0, 0, 0);
+    add_records(12, first, second, 32);
+    end(folder);
+
     /* The second sequence is the first with its two thirds exchanged and a word changed now and then. */
     for (size_t k = 0; k < sizeof sizes / sizeof *sizes; k++) {
         size_t n = sizes[k];
@@ -1092,6 +1207,9 @@ int main(int argc, char **argv)
         end(folder);
         begin(WRITE, 0, 0, 0, 0);
         add(first, n);
+        end(folder);
+        begin(MERGE, 0, 0, 0, 0);
+        add_records((uint16_t)n, first, second, n);
         end(folder);
         begin(HASHES, n < 8 ? 1 : (uint32_t)n / 8, 257, 0, 0);
         add(first, n);
@@ -1163,6 +1281,29 @@ static void repair(uint8_t *bytes, size_t len)
     }
 }
 
+/* Makes a second typing of what begins at first, mostly of the same fish with the same count, and with the right trailer. Words of
+ * it are as they were, as the first's, spelled otherwise, or no-calls. */
+static void retype(const uint8_t *first, size_t n, uint8_t *second, size_t m)
+{
+    static uint32_t words[MOST];
+    size_t count = n != 0 ? word_at(first) % (1u << 14) : 0;
+    if (n < count + 2 || m < count + 2 || count > 2048 || below(16) == 0)
+        return;
+    uint32_t header = below(16) != 0 ? word_at(first) : word_at(first) ^ 1u << below(30);
+    put_word(second, header);
+    for (size_t i = 0; i < count; i++) {
+        size_t kind = below(8), spelling = below(16);
+        uint32_t one = word_at(first + 4 * (i + 1)), other = word_at(second + 4 * (i + 1));
+        words[i] = kind < 4 ? one : kind == 4 || !sound(&other, 1) ? SIGXUME_NO_CALL : other;
+        if (kind == 5 && (one & 0xffff) == replacements[spelling])
+            words[i] = SIGXUME_CALL(65000 + spelling);
+        if (kind == 6)
+            words[i] = replaced(one);
+        put_word(second + 4 * (i + 1), words[i]);
+    }
+    put_word(second + 4 * (count + 1), trailer(header, words, count));
+}
+
 size_t LLVMFuzzerCustomMutator(uint8_t *data, size_t size, size_t max_size, unsigned seed)
 {
     chance = seed;
@@ -1186,6 +1327,13 @@ size_t LLVMFuzzerCustomMutator(uint8_t *data, size_t size, size_t max_size, unsi
         repair(bytes, len);
     if (plan.kind == PAIR && len > 0)
         repair(bytes + 4, len - 1);
+    if (plan.kind == MERGE) {
+        size_t cut = cut_of(&plan, len);
+        repair(bytes, cut);
+        repair(bytes + 4 * cut, len - cut);
+        if (below(4) != 0)
+            retype(bytes, cut, bytes + 4 * cut, len - cut);
+    }
     if ((plan.kind == COMPARE || plan.kind == COVER || plan.kind == AT_LEAST) && len > 0 && below(2) == 0) {
         /* A block of one place at another too, so that there is something to lay; or the second half begins as the first does, so
          * that they differ late or nowhere. */

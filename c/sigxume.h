@@ -26,12 +26,12 @@
  *     65,008 to 65,015  101 118 240 241 300 512 777 1,024
  *
  * Two words match when both are calls and their codes are equal once retired ones are replaced by what they stand for. A no-call matches
- * nothing, another no-call included. Comparing and hashing replace retired codes by themselves; reading and writing records leave every
- * word as it is.
+ * nothing, another no-call included. Comparing and hashing replace retired codes by themselves; reading, writing and merging records
+ * leave every word as it is.
  *
  * A sequence is 0 to 2,048 words, each a call or the no-call. Positions count from 0. A record is a sequence as it is stored: a
  * header, the sequence, a trailer. In a file each word is four bytes, lowest byte first, so on x86-64 a file's bytes can be read
- * into words as they are, and written from them.
+ * into words as they are, and written from them. Two records of one fish that was typed twice can be merged into one.
  *
  * A tile is a stretch of words of both sequences that match one by one. The tiling always lays the longest that there is on words
  * not yet covered; of equally long ones the one that starts first in the pattern, and then the one that starts first in the text. It
@@ -108,7 +108,9 @@ enum sigxume_refusal {
     SIGXUME_REFUSED_HEADER = 9,        /* the first word is no header, or its count exceeds 2,048 */
     SIGXUME_REFUSED_TRAILER = 10,      /* the trailer is not of kind 3 with the right sum */
     SIGXUME_REFUSED_ROOM = 11,         /* the buffer is shorter than what would be written */
-    SIGXUME_REFUSED_THRESHOLD = 12     /* the threshold is above 1,000 */
+    SIGXUME_REFUSED_THRESHOLD = 12,    /* the threshold is above 1,000 */
+    SIGXUME_REFUSED_FISH = 13,         /* the two records are of different fish: their ids differ */
+    SIGXUME_REFUSED_COUNT = 14         /* the two records have different counts of words */
 };
 
 /* The answer of reading: a refusal's number and zeros, or 0 and what was read. */
@@ -233,6 +235,8 @@ static inline const char *sigxume_reason(uint32_t refusal)
     case SIGXUME_REFUSED_TRAILER: return "the trailer is not of kind 3 with the right sum";
     case SIGXUME_REFUSED_ROOM: return "the buffer is shorter than what would be written";
     case SIGXUME_REFUSED_THRESHOLD: return "the threshold is above 1,000";
+    case SIGXUME_REFUSED_FISH: return "the two records are of different fish";
+    case SIGXUME_REFUSED_COUNT: return "the two records have different counts of words";
     default: return "no refusal has this number";
     }
 }
@@ -268,6 +272,27 @@ sigxume_read_answer sigxume_read(const uint32_t *src, size_t src_len, uint32_t *
  */
 sigxume_counted sigxume_write(
     uint16_t id, const uint32_t *sequence, size_t sequence_len, uint32_t *buffer, size_t buffer_len);
+
+/*
+ * Merges two records of one fish, those that first and second start with, into one of the same id and count: the record goes to the
+ * start of buffer, which must have sigxume_record_words of that count, and the answer says how many words that were. What follows
+ * either record is not looked at, and the rest of the buffer keeps its values.
+ *
+ * At each position of the sequence the word is
+ *
+ *     the first's, as it stands, where the two match: of a retired code and another spelling of it the first's is kept;
+ *     the other's, where one is the no-call; so the no-call, where both are;
+ *     the no-call, where both are calls that do not match.
+ *
+ * The result is a record with its own trailer, which reads without refusal. A record merged with itself is given back. Exchanging the
+ * two changes no word but for its spelling, where one or both have a retired code. Three records may come out otherwise in another
+ * order: where a and b are calls that do not match, a with b, then with b again, is b; but b with b, then a with that, is the no-call.
+ *
+ * Refused, in this order: what reading the first refuses, CUT (8) where it is empty, HEADER (9), CUT (8), UNSOUND (2), TRAILER (10);
+ * the same of the second; then FISH (13), COUNT (14), ROOM (11). The buffer is then as it was.
+ */
+sigxume_counted sigxume_merge(
+    const uint32_t *first, size_t first_len, const uint32_t *second, size_t second_len, uint32_t *buffer, size_t buffer_len);
 
 /*
  * Fills the start of buffer, which must have sigxume_hash_words, with the hash of each window of so many words, and answers how

@@ -36,6 +36,9 @@
 //! Whether the score is at least some threshold, [`Comparer::at_least`] answers, often after few
 //! tiles or none.
 //!
+//! Two records of a fish that was typed twice, [`merge`] makes one; [`no_calls`] counts what was not
+//! called.
+//!
 //! [`Comparer`] keeps buffers from one comparison to the next. Who has buffers already calls
 //! [`compare`], [`cover`] and [`at_least`], which allocate nothing; [`workspace_words`] and [`tile_words`] say how
 //! large they must be. No function keeps state, so any number of threads may call them, each with
@@ -51,6 +54,7 @@ mod bytes;
 mod comparer;
 mod comparison;
 mod cover;
+mod merge;
 mod record;
 mod refusal;
 mod symbol;
@@ -63,9 +67,10 @@ pub use comparison::{
     compare, compare_plain, score, tile_words, tiles, workspace_words, Comparison, Settings, Tile,
 };
 pub use cover::{cover, Cover, COVER_WORDS};
+pub use merge::merge;
 pub use record::{read, record_words, records, write, Entry, Record, Records};
 pub use refusal::Refusal;
-pub use symbol::{all_sound, replaced, words_match, Symbol};
+pub use symbol::{all_sound, no_calls, replaced, words_match, Symbol};
 pub use threshold::{at_least, Verdict};
 pub use window::{hash_list, hash_words};
 

@@ -119,3 +119,18 @@ pub fn words_match(a: u32, b: u32) -> bool {
 pub fn all_sound(words: &[u32]) -> bool {
     raw::all_sound(words)
 }
+
+/// How many words of a sequence are the no-call. The rest of a sound sequence was called: the fewer
+/// no-calls, the better the fish was typed.
+///
+/// ```
+/// use sigxume::{no_calls, Symbol};
+///
+/// let sequence = [Symbol::Call(7), Symbol::NoCall, Symbol::Call(9)].map(Symbol::word);
+/// assert_eq!(no_calls(&sequence), 1);
+/// assert_eq!(no_calls(&[]), 0);
+/// ```
+pub fn no_calls(sequence: &[u32]) -> usize {
+    let no_call = Symbol::NoCall.word();
+    sequence.iter().filter(|&&word| word == no_call).count()
+}

@@ -1,11 +1,13 @@
 //! The benchmark's baselines against the reference, and the text in which it writes sequences.
 
-use crate::benchmark::runs;
+use crate::benchmark::{merging, runs};
 use crate::group::Group;
 use crate::known::Letters;
+use crate::merge::typings::typed_twice;
 use crate::pairs::any_pair;
-use crate::reference::tiling;
-use crate::samples::{call, NO_CALL};
+use crate::records::faults::mutated;
+use crate::reference::{self, tiling};
+use crate::samples::{any_length, call, NO_CALL};
 use crate::tuned;
 use crate::wise;
 
@@ -46,6 +48,27 @@ pub fn tuned_random(g: &mut Group) {
             ),
             tuned::tiling(first, second, minimum),
             tiling(first, second, minimum),
+        );
+    }
+}
+
+/// The loop that merges does what the reference does, refusals included.
+pub fn merging_loop(g: &mut Group) {
+    for number in 0..10_000 {
+        let random = &mut g.random;
+        let length = any_length(random);
+        let mut pair = typed_twice(random, length);
+        if random.one_in(2) {
+            pair = pair.map(|words| mutated(random, words));
+        }
+        let [first, second] = &pair;
+        let room = random.pick(&[length + 1, length + 2, length + 2, length + 9]);
+        g.lend(
+            format_args!("typings {number}, {length} words, room {room}"),
+            [room],
+            None,
+            |[buffer]| merging::merge(first, second, buffer),
+            |[buffer]| reference::merging::merge(first, second, buffer),
         );
     }
 }

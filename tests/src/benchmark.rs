@@ -4,6 +4,7 @@ pub mod climb;
 pub mod counting;
 pub mod cover;
 pub mod matrix;
+pub mod merging;
 pub mod peers;
 pub mod runs;
 pub mod slow;

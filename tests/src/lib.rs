@@ -13,6 +13,7 @@ pub mod hashes;
 pub mod known;
 pub mod library;
 pub mod machine;
+pub mod merge;
 pub mod pairs;
 pub mod process;
 pub mod program;

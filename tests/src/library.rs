@@ -1,13 +1,13 @@
 //! The Rust library over the core: its results, its sizes of buffers, its words for refusals.
 
+pub mod merging;
+
 use crate::engine::{any_settings, wrong_starts, Engine, WRONG_BUCKETS};
 use crate::group::Group;
 use crate::pairs::{any_pair, Pair};
 use crate::process::printed;
 use crate::random::Random;
-use crate::reference::{
-    self, record, tiling, Curve, MAX_MINIMUM, MAX_THRESHOLD, MAX_WORDS, THRESHOLD,
-};
+use crate::reference::{self, record, tiling, Curve, COUNT, MAX_MINIMUM, MAX_THRESHOLD, MAX_WORDS};
 use crate::samples::{any_length, call, faulty, ids, sequence, sound_word, unsound_word, NO_CALL};
 use crate::tool::Tool;
 use sigxume::{
@@ -73,7 +73,7 @@ pub fn refusals(g: &mut Group) {
         .iter()
         .map(|refusal| (refusal.number(), refusal.to_string()));
     let table = Vec::from_iter(table);
-    g.equal(format_args!("all"), table.len(), THRESHOLD as usize);
+    g.equal(format_args!("all"), table.len(), COUNT as usize);
     for (at, (number, text)) in table.iter().enumerate() {
         let case = format_args!("refusal {number}, {text}");
         g.equal(case, *number as usize, at + 1);
@@ -83,7 +83,7 @@ pub fn refusals(g: &mut Group) {
         let back = Refusal::from_number(*number);
         g.equal(case, back, Some(Refusal::ALL[at]));
     }
-    for number in [0, THRESHOLD + 1, u32::MAX] {
+    for number in [0, COUNT + 1, u32::MAX] {
         let back = Refusal::from_number(number);
         g.equal(format_args!("no refusal {number}"), back, None);
     }

@@ -1,20 +1,21 @@
 //! Reading and writing records, and the two round trips.
 
+pub mod faults;
+
 use crate::group::Group;
 use crate::known::letters;
 use crate::random::Random;
-use crate::reference::{
-    self, header, record, sealed, trailer, CUT, HEADER, MAX_WORDS, ROOM, TOO_LONG, TRAILER, UNSOUND,
-};
+use crate::reference::{self, record, CUT, HEADER, MAX_WORDS, ROOM, TOO_LONG, TRAILER, UNSOUND};
 use crate::samples::{
-    any_length, call, damages, due, fault_sets, faulty, ids, rooms, sequence, sound_word,
-    unsound_word, with, NO_CALL,
+    any_length, call, damages, due, fault_sets, faulty, ids, rooms, sequence, unsound_word, with,
+    NO_CALL,
 };
+use faults::{both_trailers, faulty_record, mutated, random_record, wrong_trailers, RECORD_FAULTS};
 use sigxume::raw::{self, Counted, ReadAnswer};
 use std::fmt::Arguments;
 
 /// Lengths of sequences that are accepted.
-const LENGTHS: [usize; 6] = [0, 1, 2, 20, MAX_WORDS - 1, MAX_WORDS];
+pub const LENGTHS: [usize; 6] = [0, 1, 2, 20, MAX_WORDS - 1, MAX_WORDS];
 
 /// 01's two records: id, letters, header and trailer.
 pub const WORKED: [(u16, &str, u32, u32); 2] = [
@@ -51,12 +52,6 @@ fn write(
     );
 }
 
-/// A random record of a length.
-fn random_record(random: &mut Random, length: usize) -> Vec<u32> {
-    let id = random.half();
-    record(id, &sequence(random, length))
-}
-
 /// Records that are accepted: every length, ids at their ends, mixed and uniform sequences.
 fn accepted(random: &mut Random) -> Vec<Vec<u32>> {
     let mut records = Vec::new();
@@ -68,12 +63,6 @@ fn accepted(random: &mut Random) -> Vec<Vec<u32>> {
         }
     }
     records
-}
-
-/// A damaged record with the trailer that it had, and with the right one of its words.
-fn both_trailers(damaged: Vec<u32>) -> [Vec<u32>; 2] {
-    let words = damaged[..damaged.len() - 1].to_vec();
-    [damaged, sealed(words)]
 }
 
 /// 01's worked records, word for word.
@@ -165,12 +154,7 @@ pub fn read_trailers(g: &mut Group) {
     for whole in records {
         let count = whole.len() - 2;
         let right = whole[count + 1];
-        let of_kind = |kind: u32, sum: u32| kind << 30 | (sum & 0x3FFF_FFFF);
-        let (above, below) = (right.wrapping_add(1), right.wrapping_sub(1));
-        let mut wrong = vec![of_kind(3, above), of_kind(3, below), above, below];
-        wrong.extend((0..3).map(|kind| of_kind(kind, right)));
-        wrong.extend((0..32).map(|bit| right ^ 1 << bit));
-        for word in wrong {
+        for word in wrong_trailers(right) {
             let case = format_args!("{count} words, trailer {word:#x} for {right:#x}");
             let src = with(&whole, count + 1, word);
             read(g, case, &src, count, Some(TRAILER));
@@ -209,33 +193,15 @@ pub fn read_cut(g: &mut Group) {
 
 /// Every set of causes at once: kind and count of the first word, cut, unsound, trailer, room.
 pub fn read_order(g: &mut Group) {
-    for (faults, refusal) in fault_sets([HEADER, HEADER, CUT, UNSOUND, TRAILER, ROOM]) {
+    let [kind, large, cut, unsound, wrong] = RECORD_FAULTS;
+    for (faults, refusal) in fault_sets([kind, large, cut, unsound, wrong, ROOM]) {
         let [kind, large, cut, unsound, wrong, short] = faults;
         for count in [1, 2, 20, MAX_WORDS].repeat(10) {
             let random = &mut g.random;
-            let count = if large {
-                random.pick(&[MAX_WORDS + 1, MAX_WORDS + 2, 16_383])
-            } else {
-                count
-            };
-            let kept = if cut {
-                2 + random.below(count)
-            } else {
-                count + 2
-            };
-            let mut words = vec![header(random.half(), count)];
-            words.extend(sequence(random, count));
-            if kind {
-                words[0] |= (1 + random.below(3) as u32) << 30;
-            }
-            if unsound {
-                words[1 + random.below(kept.min(count + 1) - 1)] = unsound_word(random);
-            }
-            let mut src = sealed(words);
-            if wrong {
-                src[count + 1] ^= random.bit();
-            }
-            src.truncate(kept);
+            let id = random.half();
+            let of_record = [kind, large, cut, unsound, wrong];
+            let src = faulty_record(random, id, count, of_record);
+            let count = (src[0] & 0x3FFF) as usize;
             let room = if short {
                 random.below(count)
             } else {
@@ -250,38 +216,13 @@ pub fn read_order(g: &mut Group) {
     }
 }
 
-/// Changes words in one of many ways.
-fn mutate(random: &mut Random, words: &mut Vec<u32>) {
-    if words.is_empty() {
-        words.push(random.word());
-    }
-    let (at, other) = (random.below(words.len()), random.below(words.len()));
-    match random.below(9) {
-        0 => words[at] ^= random.bit(),
-        1 => words[at] = random.word(),
-        2 => words[at] = unsound_word(random),
-        3 => words[at] = sound_word(random),
-        4 => words[at] = header(random.half(), random.below(64)),
-        5 => words.swap(at, other),
-        6 => words.insert(at, words[other]),
-        7 => drop(words.remove(at)),
-        _ => words.truncate(at),
-    }
-}
-
 /// Random changes of right records; half of them get the trailer of their new words.
 pub fn read_mutations(g: &mut Group) {
     for number in 0..60_000 {
         let random = &mut g.random;
         let count = any_length(random);
-        let mut src = random_record(random, count);
-        for _ in 0..random.below(4) {
-            mutate(random, &mut src);
-        }
-        let end = src.first().map_or(0, |&h| (h & 0x3FFF) as usize + 1);
-        if random.one_in(2) && end < src.len() {
-            src[end] = trailer(&src[..end]);
-        }
+        let whole = random_record(random, count);
+        let src = mutated(random, whole);
         let room = random.pick(&[count, count, count + 1, count + 9, count / 2]);
         let case = format_args!("mutation {number}, {} words, room {room}", src.len());
         read(g, case, &src, room, None);

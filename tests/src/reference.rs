@@ -3,6 +3,8 @@
 //! their strand, a record their strip, a header their heading, a trailer their closing word, an id their
 //! fish number and a threshold their line.
 
+pub mod merging;
+
 use crate::engine::Engine;
 use sigxume::raw::{Compared, Counted, ReadAnswer, Told};
 use sigxume::Settings;
@@ -39,6 +41,9 @@ pub const TRAILER: u32 = 10;
 pub const ROOM: u32 = 11;
 /// 02, U5: "a line above 1,000 is 12".
 pub const THRESHOLD: u32 = 12;
+/// 02, U6: "different fish numbers 13, different counts 14".
+pub const FISH: u32 = 13;
+pub const COUNT: u32 = 14;
 
 /// Refuses with a number where its cause holds. Calls in a row check causes in that order.
 fn refuse(cause: bool, number: u32) -> Result<(), u32> {
@@ -64,9 +69,14 @@ fn code(word: u32) -> Option<u32> {
     (kind(word) == 1 && low(word) >> 16 == 0).then_some(word & 0xFFFF)
 }
 
-/// Whether a word is a call or a no-call ("bits 29 to 0 zero").
+/// Whether a word is a no-call: "bits 29 to 0 zero".
+fn is_no_call(word: u32) -> bool {
+    kind(word) == 2 && low(word) == 0
+}
+
+/// Whether a word is a call or a no-call.
 pub fn is_sound(word: u32) -> bool {
-    code(word).is_some() || (kind(word) == 2 && low(word) == 0)
+    code(word).is_some() || is_no_call(word)
 }
 
 /// Whether each word is a call or a no-call.

@@ -20,7 +20,7 @@ const REPLACEMENTS: [u16; 13] = [11, 14, 27, 30, 52, 101, 118, 240, 241, 300, 51
 const ALIKE: [&[u16]; 2] = [&[65_001, 65_002, 14], &[65_005, 65_006, 65_007, 52]];
 
 /// Every code that a replacement has to do with, those next to it, and two that have nothing to do with it.
-fn codes() -> Vec<u16> {
+pub fn codes() -> Vec<u16> {
     let retired = RETIRED.map(|(retired, _)| retired);
     let near = REPLACEMENTS.iter().flat_map(|&new| [new - 1, new, new + 1]);
     let mut codes: Vec<u16> = near.chain(retired).chain(NEIGHBOURS).collect();
@@ -120,7 +120,7 @@ pub fn matches(g: &mut Group) {
 }
 
 /// A sequence of which a third of the words are calls of retired codes and of those that they stand for.
-fn scattered(random: &mut Random, length: usize) -> Vec<u32> {
+pub fn scattered(random: &mut Random, length: usize) -> Vec<u32> {
     let mut words = sequence(random, length);
     for word in &mut words {
         if random.one_in(3) {
@@ -131,11 +131,16 @@ fn scattered(random: &mut Random, length: usize) -> Vec<u32> {
     words
 }
 
-/// A code as it may stand in a file: itself, or a retired one that stands for it.
-fn spelling(random: &mut Random, new: u16) -> u16 {
+/// A code that is not retired as it may stand in a file: itself, and each retired one that stands for it.
+pub fn spellings(new: u16) -> Vec<u16> {
     let mut all = vec![new];
     all.extend(RETIRED.iter().filter(|row| row.1 == new).map(|row| row.0));
-    random.pick(&all)
+    all
+}
+
+/// One of them.
+pub fn spelling(random: &mut Random, new: u16) -> u16 {
+    random.pick(&spellings(new))
 }
 
 /// The same words with a third of their codes exchanged for those that retired ones stand for, each spelled one way or

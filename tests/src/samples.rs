@@ -151,6 +151,16 @@ pub fn fills(pair: &Pair) -> [(&'static str, Vec<u32>); 8] {
     ]
 }
 
+/// The orders of three.
+pub const ORDERS: [[usize; 3]; 6] = [
+    [0, 1, 2],
+    [0, 2, 1],
+    [1, 0, 2],
+    [1, 2, 0],
+    [2, 0, 1],
+    [2, 1, 0],
+];
+
 /// The number that is due: that of the first cause that holds, or 0 where none does.
 pub fn due(causes: impl IntoIterator<Item = (bool, u32)>) -> u32 {
     let first = causes.into_iter().find(|&(holds, _)| holds);

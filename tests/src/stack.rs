@@ -4,10 +4,12 @@
 
 use crate::engine::Engine;
 use crate::group::Group;
+use crate::merge::typings::typed_twice;
 use crate::pairs::{calls, distinct, periodic, related, unrelated, Pair};
 use crate::process::{self, lossy, AT_ONCE};
 use crate::program;
 use crate::random::Random;
+use crate::reference::merging::merge;
 use crate::reference::{
     self, hash_list, record, tile_words, workspace_words, COVER_WORDS, MAX_THRESHOLD, MAX_WORDS,
 };
@@ -191,6 +193,14 @@ pub fn others(g: &mut Group) {
             Some(0),
             |[buffer]| within("write", LEAST, || raw::write(12, &words, buffer)),
             |[buffer]| reference::write(12, &words, buffer),
+        );
+        let [first, second] = typed_twice(&mut g.random, length);
+        g.lend(
+            case,
+            [whole.len()],
+            Some(0),
+            |[buffer]| within("merge", LEAST, || raw::merge(&first, &second, buffer)),
+            |[buffer]| merge(&first, &second, buffer),
         );
         g.lend(
             case,

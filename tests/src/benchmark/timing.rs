@@ -14,10 +14,10 @@ use crate::samples::call;
 use crate::series;
 
 const SEED: u64 = 1;
-const CODES: u16 = 40;
+pub(super) const CODES: u16 = 40;
 const MINIMUM: u32 = 8;
 /// Of random pairs there are so many of each kind, which are compared in turn.
-const PAIRS: usize = 16;
+pub(super) const PAIRS: usize = 16;
 const LENGTHS: [usize; 4] = [256, 512, 1_024, 2_048];
 
 /// The pairs of four codes are compared at this minimum.
@@ -94,7 +94,7 @@ static TILINGS: Table = Table {
 };
 
 /// Pairs that are compared in turn, with their name.
-type Kind = (String, Vec<Pair>);
+pub(super) type Kind = (String, Vec<Pair>);
 
 /// A comparison at a minimum.
 fn at_minimum(name: &str, pairs: Vec<Pair>, minimum: u32) -> Job {
@@ -107,7 +107,10 @@ fn job((name, pairs): Kind) -> Job {
 }
 
 /// Random pairs of some kinds, made by so many generators: one of each kind by each.
-fn kinds(seed: u64, make: impl Fn(&mut Random) -> Vec<(&'static str, Pair)>) -> Vec<Kind> {
+pub(super) fn kinds(
+    seed: u64,
+    make: impl Fn(&mut Random) -> Vec<(&'static str, Pair)>,
+) -> Vec<Kind> {
     let mut kinds: Vec<Kind> = Vec::new();
     for seed in (seed..).step_by(100).take(PAIRS) {
         for (at, (name, pair)) in make(&mut Random::new(seed)).into_iter().enumerate() {

@@ -1,12 +1,12 @@
 //! Measures the core's engines beside baselines, in one run: their time on ordinary pairs and on slow ones,
-//! that of a cover, of an answer about a threshold and of the tool's matrix, and their instructions on the
-//! strings of Wise's paper. First all of them must answer alike, word for word; then the tables are printed,
+//! that of a cover, of an answer about a threshold, of merging and of the tool's matrix, and their
+//! instructions on the strings of Wise's paper. First all of them must answer alike, word for word; then the tables are printed,
 //! and what was promised of them. The exit status is 1 where an answer differs or a promise is not kept.
 //! Arguments are names of tables: only those are then made. `climb SECONDS [SEED]` searches for slow inputs
 //! instead.
 
 use sigxume_tests::benchmark::{
-    climb, counting, cover, matrix, peers, slow, threshold, timing, Promises,
+    climb, counting, cover, matrix, merging, peers, slow, threshold, timing, Promises,
 };
 use std::process::ExitCode;
 
@@ -19,13 +19,14 @@ type Row = (
 
 /// The tables in their order.
 #[rustfmt::skip]
-const TABLES: [Row; 10] = [
+const TABLES: [Row; 11] = [
     ("ordinary", timing::agree_ordinary, |promises| { timing::compare_ordinary(promises); Ok(()) }),
     ("tilings", timing::agree_tilings, |promises| { timing::compare_tilings(promises); Ok(()) }),
     ("growth", || true, |_| { timing::grow(); Ok(()) }),
     ("slow", slow::agree, |promises| { slow::compare_slow(promises); Ok(()) }),
     ("cover", cover::agree, |promises| { cover::compare_cover(promises); Ok(()) }),
     ("threshold", threshold::agree, |promises| { threshold::compare_threshold(promises); Ok(()) }),
+    ("merging", merging::agree, |promises| { merging::compare_merging(promises); Ok(()) }),
     ("peers", || true, |_| peers::compare_peers().map_err(|error| error.to_string())),
     ("matrix", || true, |promises| matrix::compare_matrix(promises).map_err(|error| error.to_string())),
     ("large", || true, |_| matrix::compare_large().map_err(|error| error.to_string())),

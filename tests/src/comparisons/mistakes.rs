@@ -9,7 +9,7 @@ use crate::known::Letters;
 use crate::pairs::{calls, distinct, shuffled, Pair, Sides};
 use crate::random::Random;
 use crate::reference::{window_hashes, MAX_WORDS};
-use crate::samples::{call, NO_CALL};
+use crate::samples::{call, NO_CALL, ORDERS};
 
 /// "Skipping a free stretch of exactly the minimum length": runs and free stretches one word short
 /// of the minimum, of the minimum, and one word longer.
@@ -30,18 +30,10 @@ pub fn exact_minimum(g: &mut Group) {
             plan.lengthen(1).expect(g, minimum);
         }
     }
-    let orders = [
-        [0, 1, 2],
-        [0, 2, 1],
-        [1, 0, 2],
-        [1, 2, 0],
-        [2, 0, 1],
-        [2, 1, 0],
-    ];
     for s in [1, 2, 3, 4, 8] {
         for sizes in (0..27).map(|n| [n / 9, n / 3 % 3, n % 3].map(|more| s - 1 + more)) {
             let blocks: [Vec<u32>; 3] = std::array::from_fn(|i| distinct(100 * i, sizes[i]));
-            for order in orders {
+            for order in ORDERS {
                 let second = order.map(|i| &blocks[i][..]).concat();
                 let pair = [&blocks.concat()[..], &second];
                 let case = format_args!("blocks of {sizes:?}, order {order:?}, minimum {s}");
