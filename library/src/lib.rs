@@ -51,6 +51,7 @@ mod bytes;
 mod comparer;
 mod comparison;
 mod cover;
+mod merge;
 mod record;
 mod refusal;
 mod symbol;
@@ -63,9 +64,10 @@ pub use comparison::{
     compare, compare_plain, score, tile_words, tiles, workspace_words, Comparison, Settings, Tile,
 };
 pub use cover::{cover, Cover, COVER_WORDS};
+pub use merge::merge;
 pub use record::{read, record_words, records, write, Entry, Record, Records};
 pub use refusal::Refusal;
-pub use symbol::{all_sound, replaced, words_match, Symbol};
+pub use symbol::{all_sound, no_calls, replaced, words_match, Symbol};
 pub use threshold::{at_least, Verdict};
 pub use window::{hash_list, hash_words};
 

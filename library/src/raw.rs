@@ -76,6 +76,14 @@ extern "C" {
         buffer: *mut u32,
         buffer_len: usize,
     ) -> Counted;
+    fn sigxume_merge(
+        first: *const u32,
+        first_len: usize,
+        second: *const u32,
+        second_len: usize,
+        buffer: *mut u32,
+        buffer_len: usize,
+    ) -> Counted;
     fn sigxume_hash_list(
         words: *const u32,
         words_len: usize,
@@ -166,6 +174,20 @@ pub fn write(id: u16, sequence: &[u32], buffer: &mut [u32]) -> Counted {
             id,
             sequence.as_ptr(),
             sequence.len(),
+            buffer.as_mut_ptr(),
+            buffer.len(),
+        )
+    }
+}
+
+/// Merges the records that `first` and `second` start with into the start of `buffer`.
+pub fn merge(first: &[u32], second: &[u32], buffer: &mut [u32]) -> Counted {
+    unsafe {
+        sigxume_merge(
+            first.as_ptr(),
+            first.len(),
+            second.as_ptr(),
+            second.len(),
             buffer.as_mut_ptr(),
             buffer.len(),
         )

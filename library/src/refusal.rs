@@ -42,6 +42,10 @@ pub enum Refusal {
     Room = 11,
     /// The threshold is above [`MAX_THRESHOLD`](crate::MAX_THRESHOLD).
     Threshold = 12,
+    /// The two records are of different fish.
+    Fish = 13,
+    /// The two records have different counts of words.
+    Count = 14,
 }
 
 impl Refusal {
@@ -59,6 +63,8 @@ impl Refusal {
         Self::Trailer,
         Self::Room,
         Self::Threshold,
+        Self::Fish,
+        Self::Count,
     ];
 
     /// The number, from 1.
@@ -97,6 +103,8 @@ impl Refusal {
             Self::Trailer => "the trailer is not of kind 3 with the right sum",
             Self::Room => "the buffer is shorter than what would be written",
             Self::Threshold => "the threshold is above 1,000",
+            Self::Fish => "the two records are of different fish",
+            Self::Count => "the two records have different counts of words",
         }
     }
 

@@ -119,3 +119,9 @@ pub fn words_match(a: u32, b: u32) -> bool {
 pub fn all_sound(words: &[u32]) -> bool {
     raw::all_sound(words)
 }
+
+/// How many words of a sequence are the no-call.
+pub fn no_calls(sequence: &[u32]) -> usize {
+    let no_call = Symbol::NoCall.word();
+    sequence.iter().filter(|word| **word == no_call).count()
+}
