@@ -1,9 +1,9 @@
-//! One pair's answer for people, as the pair program prints it, and for programs, as JSON.
+//! One pair's answer for people, in the manner of the pair program, and for programs, as JSON.
 
 use crate::fish::Fish;
 use sigxume::Tiling;
 
-/// The listing, byte for byte the pair program's.
+/// The listing: the pair program's with one line more, that of the no-calls.
 pub fn listing([first, second]: [&Fish; 2], minimum: u32, tiling: Tiling) -> String {
     let mut text = format!(
         "FISH {} {}\nMINIMUM {minimum}\nTILES {}\n",
@@ -21,10 +21,12 @@ pub fn listing([first, second]: [&Fish; 2], minimum: u32, tiling: Tiling) -> Str
         );
     }
     text += &format!(
-        "COVERED {} OF {} {}\nSCORE {}\n",
+        "COVERED {} OF {} {}\nNO-CALLS {} {}\nSCORE {}\n",
         tiling.covered(),
         first.sequence.len(),
         second.sequence.len(),
+        first.no_calls,
+        second.no_calls,
         tiling.score()
     );
     text
@@ -42,11 +44,13 @@ pub fn json([first, second]: [&Fish; 2], minimum: u32, tiling: Tiling) -> String
         )
     }));
     format!(
-        r#"{{"fish":[{},{}],"minimum":{minimum},"lengths":[{},{}],"tiles":[{}],"covered":{},"score":{}}}"#,
+        r#"{{"fish":[{},{}],"minimum":{minimum},"lengths":[{},{}],"no_calls":[{},{}],"tiles":[{}],"covered":{},"score":{}}}"#,
         first.id,
         second.id,
         first.sequence.len(),
         second.sequence.len(),
+        first.no_calls,
+        second.no_calls,
         tiles.join(","),
         tiling.covered(),
         tiling.score()

@@ -12,11 +12,13 @@ pub fn lines(threshold: u32, verdict: Verdict) -> String {
 /// One line of JSON.
 pub fn json([first, second]: [&Fish; 2], minimum: u32, threshold: u32, verdict: Verdict) -> String {
     format!(
-        r#"{{"fish":[{},{}],"minimum":{minimum},"lengths":[{},{}],"threshold":{threshold},"reached":{},"tiles":{}}}"#,
+        r#"{{"fish":[{},{}],"minimum":{minimum},"lengths":[{},{}],"no_calls":[{},{}],"threshold":{threshold},"reached":{},"tiles":{}}}"#,
         first.id,
         second.id,
         first.sequence.len(),
         second.sequence.len(),
+        first.no_calls,
+        second.no_calls,
         verdict.reached,
         verdict.tiles
     ) + "\n"
