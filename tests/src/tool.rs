@@ -28,6 +28,7 @@ pub mod results;
 pub mod round_trips;
 pub mod sides;
 pub mod svg;
+pub mod typing;
 pub mod unreadable;
 pub mod usage;
 pub mod verdict;
@@ -134,15 +135,19 @@ impl Tool {
         g.equal(format_args!("{case}: the file {name}"), difference, None);
     }
 
-    /// The tool must write this to the file named by `-o`, print nothing, and leave no other file.
+    /// The tool must write to the file named by `-o` what it would print, and leave no other file.
     pub fn expect_written(
         &self,
         g: &mut Group,
         case: Arguments,
         args: &[&str],
         input: &[u8],
-        written: &[u8],
+        expected: &Expected,
     ) {
+        let silent = Expected {
+            stdout: Vec::new(),
+            ..expected.clone()
+        };
         for before in [None, Some("what was there before\n")] {
             self.remove("out");
             if let Some(text) = before {
@@ -153,9 +158,10 @@ impl Tool {
             names.push("out".into());
             names.sort();
             let args = [args, &["-o", "out"]].concat();
-            self.expect(g, case, &args, input, &Expected::prints(""));
-            self.expect_file(g, format_args!("{case}: {args:?}"), "out", written);
-            g.equal(format_args!("{case}: {args:?}, names"), self.names(), names);
+            self.expect(g, case, &args, input, &silent);
+            let case = format_args!("{case}: {args:?}");
+            self.expect_file(g, case, "out", &expected.stdout);
+            g.equal(format_args!("{case}, names"), self.names(), names);
         }
         self.remove("out");
     }

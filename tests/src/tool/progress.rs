@@ -1,13 +1,14 @@
 //! The progress bar of `matrix`: at a terminal it is there and wiped in the end, elsewhere it is not.
 
 use super::expected::differing;
-use super::fish::{fish, records, text, Fish};
+use super::fish::{records, text, Fish};
 use super::matrix::related_fish;
 use super::results::{Cell, Compared, Matrix};
 use super::{Tool, PROGRAMS};
 use crate::group::Group;
 use crate::pairs::calls;
 use crate::process::lossy;
+use crate::samples::sequence;
 use std::process::{Command, Stdio};
 
 /// What a command writes to a pseudo-terminal, and its status.
@@ -81,7 +82,7 @@ pub fn progress(g: &mut Group) {
     let tool = Tool::new(g);
     let mut all = related_fish(&mut g.random, 40);
     for one in &mut all {
-        one.words.extend(fish(&mut g.random, 300).words);
+        one.words.extend(sequence(&mut g.random, 300));
     }
     let matrix = Matrix::new(&all, 1);
     let (table, list) = (matrix.table(), matrix.whole_list());
