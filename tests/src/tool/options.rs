@@ -93,6 +93,10 @@ pub fn options(g: &mut Group) {
     same(g, &tool, &sides.prints(sides.whole_ranking(0)), &[
         &["matrix", "-m3", "a", "--against", "a", "--at-least", "0"], &["matrix", "--at-least=0", "--against=a", "-m3", "--top=16", "a"],
     ]);
+    #[rustfmt::skip]
+    same(g, &tool, &matrix.prints(matrix.table()), &[
+        &["matrix", "-m3", "--min-called", "0", "a"], &["matrix", "a", "--min-called=0", "-m3"], &["matrix", "-m3", "--min-called=000", "--", "-a"],
+    ]);
     names(g, &tool, &all);
 }
 

@@ -43,11 +43,11 @@ The table
     14,500,800,
 
   With --pairs each pair stands once, in the order of the rows; the row and the
-  column are counted from 1, and the last two columns are the no-calls of the
-  two fish. A line is too long for this screen and stands here in two:
+  column are counted from 1, and the last two columns are the no-calls of both
+  fish. (The heading is one line.)
 
     row,column,first_fish,second_fish,tiles,covered,score,
-      first_no_calls,second_no_calls
+        first_no_calls,second_no_calls
     1,2,12,13,3,7,736,0,0
 
 With --at-least
