@@ -32,8 +32,21 @@ pub fn listing([first, second]: [&Fish; 2], minimum: u32, tiling: Tiling) -> Str
     text
 }
 
+/// How a JSON text about a pair begins.
+pub fn named([first, second]: [&Fish; 2], minimum: u32) -> String {
+    format!(
+        r#""fish":[{},{}],"minimum":{minimum},"lengths":[{},{}],"no_calls":[{},{}]"#,
+        first.id,
+        second.id,
+        first.sequence.len(),
+        second.sequence.len(),
+        first.no_calls,
+        second.no_calls
+    )
+}
+
 /// One line of JSON.
-pub fn json([first, second]: [&Fish; 2], minimum: u32, tiling: Tiling) -> String {
+pub fn json(pair: [&Fish; 2], minimum: u32, tiling: Tiling) -> String {
     let tiles = Vec::from_iter(tiling.tiles().map(|tile| {
         format!(
             r#"{{"first":{},"second":{},"length":{},"shift":{}}}"#,
@@ -44,13 +57,8 @@ pub fn json([first, second]: [&Fish; 2], minimum: u32, tiling: Tiling) -> String
         )
     }));
     format!(
-        r#"{{"fish":[{},{}],"minimum":{minimum},"lengths":[{},{}],"no_calls":[{},{}],"tiles":[{}],"covered":{},"score":{}}}"#,
-        first.id,
-        second.id,
-        first.sequence.len(),
-        second.sequence.len(),
-        first.no_calls,
-        second.no_calls,
+        r#"{{{},"tiles":[{}],"covered":{},"score":{}}}"#,
+        named(pair, minimum),
         tiles.join(","),
         tiling.covered(),
         tiling.score()

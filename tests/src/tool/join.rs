@@ -20,23 +20,9 @@ const TYPED_ONCE: [(bool, &[&str]); 4] = [
 
 /// The tool must write the joined records and print the report.
 fn made(g: &mut Group, tool: &Tool, case: Arguments, args: &[&str], input: &[u8], due: &Joined) {
-    let args = [&["join"], args, &["-o", "out"]].concat();
-    for before in [None, Some("what was there before\n")] {
-        tool.remove("out");
-        if let Some(text) = before {
-            tool.put("out", text);
-        }
-        let mut names = tool.names();
-        names.retain(|name| name != "out");
-        names.push("out".into());
-        names.sort();
-        let expected = Expected::prints(&due.report[..]).after(due.said.clone());
-        tool.expect(g, case, &args, input, &expected);
-        let case = format_args!("{case}: {args:?}");
-        tool.expect_file(g, case, "out", &records(&due.fish));
-        g.equal(format_args!("{case}, names"), tool.names(), names);
-    }
-    tool.remove("out");
+    let args = [&["join"], args].concat();
+    let expected = Expected::prints(&due.report[..]).after(due.said.clone());
+    tool.expect_made(g, case, &args, input, &expected, &records(&due.fish));
 }
 
 /// Two files in either form, one of them from standard input, with every option.
@@ -202,7 +188,7 @@ pub fn join(g: &mut Group) {
     let tool = Tool::new(g);
     example(g, &tool);
     three_typings(g, &tool);
-    for number in 0..40 {
+    for number in 0..25 {
         let Typings { first, second } = Typings::any(&mut g.random, 6, 30);
         let case = format_args!("files {number}");
         every_way(g, &tool, case, [&first, &second]);

@@ -8,29 +8,11 @@ use super::Tool;
 use crate::group::Group;
 use crate::process::lossy;
 use crate::samples::call;
-use std::fmt::Arguments;
 use std::fs::File;
 use std::process::Stdio;
 
 /// The number of the refusal of different counts.
 const COUNT: u32 = 14;
-
-/// The tool must end so, and leave the folder as it was, whether the file named by `-o` was there or not.
-fn stays(g: &mut Group, tool: &Tool, case: Arguments, args: &[&str], input: &[u8], due: &Expected) {
-    let args = [&["join"], args, &["-o", "out"]].concat();
-    for before in [None, Some(b"what was there before\n".to_vec())] {
-        tool.remove("out");
-        if let Some(bytes) = &before {
-            tool.put("out", bytes);
-        }
-        let names = tool.names();
-        tool.expect(g, case, &args, input, due);
-        let left = (tool.get("out"), tool.names());
-        let case = format_args!("{case}: {args:?}, files");
-        g.equal(case, left, (before, names));
-    }
-    tool.remove("out");
-}
 
 /// It prints nothing but these lines on standard error.
 fn says(lines: &[String]) -> Expected {
@@ -71,8 +53,8 @@ fn twice(g: &mut Group, tool: &Tool) {
         ),
     ] {
         for option in [&[][..], &["--typed-once", "leave-out"]] {
-            let args = [&files[..], option].concat();
-            stays(g, tool, case, &args, input, &says(&due));
+            let args = [&["join"], &files[..], option].concat();
+            tool.expect_unmade(g, case, &args, input, &says(&due));
         }
     }
 }
@@ -108,7 +90,7 @@ fn counts(g: &mut Group, tool: &Tool) {
         tool.put("first", g.random.pick(&forms)(&first));
         tool.put("second", g.random.pick(&forms)(&second));
         let case = format_args!("different counts {number}");
-        stays(g, tool, case, &["first", "second"], b"", &says(&due));
+        tool.expect_unmade(g, case, &["join", "first", "second"], b"", &says(&due));
     }
     let words = refusal(COUNT);
     let right = words == "the two records have different counts of words (refusal 14)";
@@ -122,8 +104,8 @@ fn unreadable(g: &mut Group, tool: &Tool) {
     let case = format_args!("bad input");
     let begins = |start: &str| Expected::fails(Line::Begins(format!("sigxume: {start}")));
     for (bad, due) in [("missing", "missing: "), ("folder", "folder: is a folde")] {
-        stays(g, tool, case, &["good", bad], b"", &begins(due));
-        stays(g, tool, case, &[bad, "good"], b"", &begins(due));
+        tool.expect_unmade(g, case, &["join", "good", bad], b"", &begins(due));
+        tool.expect_unmade(g, case, &["join", bad, "good"], b"", &begins(due));
     }
     let texts: [&[u8]; 4] = [b"12 x\n", b"12 1\n12 1", b"12 1\n\n", b"12 1\r\n"];
     let damaged: [&[u8]; 3] = [&[0; 12], &[255; 12], b"\0\0\0"];
@@ -133,14 +115,14 @@ fn unreadable(g: &mut Group, tool: &Tool) {
         let fault = fault.expect("a fault");
         tool.put("bad", bytes);
         let due = Expected::fails(fault.line("bad"));
-        stays(g, tool, case, &["good", "bad"], b"", &due);
-        stays(g, tool, case, &["bad", "good"], b"", &due);
+        tool.expect_unmade(g, case, &["join", "good", "bad"], b"", &due);
+        tool.expect_unmade(g, case, &["join", "bad", "good"], b"", &due);
         let due = Expected::fails(fault.line("standard input"));
-        stays(g, tool, case, &["good", "-"], bytes, &due);
+        tool.expect_unmade(g, case, &["join", "good", "-"], bytes, &due);
     }
     // Of two bad files the first is told.
     let due = Expected::fails(Line::Begins("sigxume: bad, ".into()));
-    stays(g, tool, case, &["bad", "missing"], b"", &due);
+    tool.expect_unmade(g, case, &["join", "bad", "missing"], b"", &due);
 }
 
 /// A report that cannot be written, and a file that cannot be.

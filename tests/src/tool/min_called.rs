@@ -206,13 +206,11 @@ fn example(g: &mut Group, tool: &Tool) {
 pub fn min_called(g: &mut Group) {
     let tool = Tool::new(g);
     example(g, &tool);
-    for count in [2, 3, 5, 8] {
-        for _ in 0..3 {
-            let all = shares(&mut g.random, count);
-            for percent in percents(&all) {
-                matrices(g, &tool, &all, percent);
-                pairs(g, &tool, &all, percent);
-            }
+    for count in [2, 2, 3, 3, 5, 8] {
+        let all = shares(&mut g.random, count);
+        for percent in percents(&all) {
+            matrices(g, &tool, &all, percent);
+            pairs(g, &tool, &all, percent);
         }
     }
 }
