@@ -126,6 +126,7 @@ pub fn progress(g: &mut Group) {
         }
     }
     left_out(g, &tool, &table);
+    warned(g, &tool);
     midway(g, &tool);
     encode(g, &tool);
 }
@@ -200,6 +201,16 @@ fn left_out(g: &mut Group, tool: &Tool, table: &str) {
         Ok((status, right, rest == table.trim_end()))
     });
     g.equal(format_args!("left out"), seen, Ok((Some(1), true, true)));
+}
+
+/// A warning stands on a line of its own before the table.
+fn warned(g: &mut Group, tool: &Tool) {
+    tool.put("badly.txt", "1 ? ? 5\n2 5\n");
+    let ran = at_terminal(tool, "sigxume matrix -m 1 badly.txt");
+    let seen = ran.and_then(|(status, bytes)| Ok((status, shown(&bytes)?)));
+    let screen = "sigxume: warning: fish 1 has 1 of 3 words called: a fish typed so badly looks unrelated to \
+                  every other\nfish,1,2\n1,,500\n2,500,";
+    g.equal(format_args!("warned"), seen, Ok((Some(0), screen.into())));
 }
 
 /// `encode` prints no records at a terminal.
