@@ -20,8 +20,9 @@ const OUTSIDE: f64 = 12.0;
 const BAND: f64 = 8.0;
 const NUMBERS: f64 = 18.0;
 
-/// A mark of no-calls stands out of its band so far on either side.
+/// A mark of no-calls stands out of its band so far on either side, and is so high.
 const OUT: f64 = 2.0;
+const MARK: f64 = BAND + 2.0 * OUT;
 
 // A moved tile is told apart by colour, by its lightness in grey print, and by its width; a no-call is black, and higher
 // than what is covered.
@@ -115,7 +116,6 @@ fn widths([across, down]: &[Axis; 2]) -> String {
 }
 
 fn legend(heading: &str, facts: &str, [kept, moved, no_calls]: &[String; 3]) -> String {
-    let high = BAND + 2.0 * OUT;
     format!(
         r#"<g id="legend">
 <text class="heading" x="16" y="28">{heading}</text>
@@ -124,7 +124,7 @@ fn legend(heading: &str, facts: &str, [kept, moved, no_calls]: &[String; 3]) -> 
 <text x="52" y="72">{kept}</text>
 <path class="moved" d="M202 68H226"/>
 <text x="236" y="72">{moved}</text>
-<rect class="no-call" x="362" y="62" width="24" height="{high}"/>
+<rect class="no-call" x="362" y="62" width="24" height="{MARK}"/>
 <text x="396" y="72">{no_calls}</text>
 </g>
 "#
@@ -172,12 +172,12 @@ fn band(
             "<rect class=\"cover {class}\" x=\"{start}\" width=\"{width}\" height=\"{BAND}\"/>\n"
         );
     }
-    let (up, high) = (-OUT, BAND + 2.0 * OUT);
+    let up = -OUT;
     for Range { start, end } in no_calls {
         let width = end - start;
         let title = counted(width, "no-call");
         text += &format!(
-            "<rect class=\"no-call\" x=\"{start}\" y=\"{up}\" width=\"{width}\" height=\"{high}\">\
+            "<rect class=\"no-call\" x=\"{start}\" y=\"{up}\" width=\"{width}\" height=\"{MARK}\">\
              <title>{title} from position {start}</title></rect>\n"
         );
     }

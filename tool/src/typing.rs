@@ -24,8 +24,7 @@ pub fn is_bad(fish: &Fish) -> bool {
 }
 
 /// The fish of which at least so many per cent of the words are called; the others are named. A fish without words stays.
-pub fn leave_out(mut fish: Vec<Fish>, percent: Option<usize>) -> Vec<Fish> {
-    let percent = percent.unwrap_or(0);
+pub fn leave_out(mut fish: Vec<Fish>, percent: usize) -> Vec<Fish> {
     fish.retain(|fish| {
         let stays = 100 * fish.calls() >= percent * fish.sequence.len();
         if !stays {

@@ -18,7 +18,7 @@ pub struct Arguments {
     /// The most pairs of a list.
     pub top: Option<NonZeroUsize>,
     /// The least share of called words, in per cent.
-    pub min_called: Option<usize>,
+    pub min_called: usize,
     pub typed_once: TypedOnce,
     pub output: Option<PathBuf>,
     /// One pair at most, but where `--fish` may be repeated.
@@ -93,9 +93,8 @@ const TABLE: [Row; 16] = [
         long: "min-called",
         short: None,
         takes: Value("a number from 0 to 100", |arguments, value| {
-            let percent = number(value.to_str()?)?;
-            arguments.min_called = Some(percent);
-            (percent <= 100).then_some(())
+            arguments.min_called = number(value.to_str()?)?;
+            (arguments.min_called <= 100).then_some(())
         }),
     },
     Row {
