@@ -12,11 +12,14 @@ pub mod curves;
 pub mod expected;
 pub mod faults;
 pub mod fish;
+pub mod join;
+pub mod join_bad;
 pub mod json;
 pub mod matrix;
 pub mod matrix_bad;
 pub mod matrix_large;
 pub mod matrix_mirror;
+pub mod min_called;
 pub mod options;
 pub mod output;
 pub mod picture;
@@ -28,9 +31,12 @@ pub mod results;
 pub mod round_trips;
 pub mod sides;
 pub mod svg;
+pub mod typing;
+pub mod typings;
 pub mod unreadable;
 pub mod usage;
 pub mod verdict;
+pub mod warned;
 
 use crate::group::Group;
 use crate::process::{self, lossy, AT_ONCE};
@@ -134,30 +140,42 @@ impl Tool {
         g.equal(format_args!("{case}: the file {name}"), difference, None);
     }
 
-    /// The tool must write this to the file named by `-o`, print nothing, and leave no other file.
+    /// The tool must write to the file named by `-o` what it would print, and leave no other file.
     pub fn expect_written(
         &self,
         g: &mut Group,
         case: Arguments,
         args: &[&str],
         input: &[u8],
+        expected: &Expected,
+    ) {
+        let silent = Expected {
+            stdout: Vec::new(),
+            ..expected.clone()
+        };
+        self.expect_made(g, case, args, input, &silent, &expected.stdout);
+    }
+
+    /// The tool must do as expected, write this to the file named by `-o`, and leave no other file.
+    pub fn expect_made(
+        &self,
+        g: &mut Group,
+        case: Arguments,
+        args: &[&str],
+        input: &[u8],
+        expected: &Expected,
         written: &[u8],
     ) {
-        for before in [None, Some("what was there before\n")] {
-            self.remove("out");
-            if let Some(text) = before {
-                self.put("out", text);
-            }
+        self.over(args, |args, _| {
             let mut names = self.names();
             names.retain(|name| name != "out");
             names.push("out".into());
             names.sort();
-            let args = [args, &["-o", "out"]].concat();
-            self.expect(g, case, &args, input, &Expected::prints(""));
-            self.expect_file(g, format_args!("{case}: {args:?}"), "out", written);
-            g.equal(format_args!("{case}: {args:?}, names"), self.names(), names);
-        }
-        self.remove("out");
+            self.expect(g, case, args, input, expected);
+            let case = format_args!("{case}: {args:?}");
+            self.expect_file(g, case, "out", written);
+            g.equal(format_args!("{case}, names"), self.names(), names);
+        });
     }
 
     /// The tool must fail as expected, and leave the folder as it was, with and without a file named by
@@ -171,20 +189,36 @@ impl Tool {
         expected: &Expected,
     ) {
         self.expect(g, case, args, input, expected);
+        self.expect_unmade(g, case, args, input, expected);
+    }
+
+    /// The tool must do as expected, and leave the folder as it was, though a file is named by `-o`.
+    pub fn expect_unmade(
+        &self,
+        g: &mut Group,
+        case: Arguments,
+        args: &[&str],
+        input: &[u8],
+        expected: &Expected,
+    ) {
+        self.over(args, |args, before| {
+            let names = self.names();
+            self.expect(g, case, args, input, expected);
+            let left = (self.get("out"), self.names());
+            let case = format_args!("{case}: {args:?}, files");
+            g.equal(case, left, (before, names));
+        });
+    }
+
+    /// Arguments with `-o out`, where that file is not there and where it is, with its bytes.
+    fn over(&self, args: &[&str], mut with: impl FnMut(&[&str], Option<Vec<u8>>)) {
         let args = [args, &["-o", "out"]].concat();
         for before in [None, Some(b"what was there before\n".to_vec())] {
             self.remove("out");
             if let Some(bytes) = &before {
                 self.put("out", bytes);
             }
-            let names = self.names();
-            self.expect(g, case, &args, input, expected);
-            let left = (self.get("out"), self.names());
-            g.equal(
-                format_args!("{case}: {args:?}, files"),
-                left,
-                (before, names),
-            );
+            with(&args, before);
         }
         self.remove("out");
     }

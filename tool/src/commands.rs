@@ -1,16 +1,17 @@
 //! What the subcommands do.
 
 use crate::cover::{self, Covered};
-use crate::failure::Failure;
+use crate::failure::{complain, Failure};
 use crate::fish::{self, Fish};
-use crate::input::{Form, Reader};
+use crate::input::{self, Form, Reader};
+use crate::join::{self, Typing};
 use crate::layout::{Layout, Lines, Table};
 use crate::matrix::Matrix;
 use crate::output::{self, Output};
 use crate::pairs::Sides;
 use crate::ranking::Ranking;
 use crate::usage::Arguments;
-use crate::{curves, listing, plot, text, verdict};
+use crate::{curves, listing, plot, text, typing, verdict};
 use sigxume::{bytes_of_words, Comparer, Refusal, Symbol, Tiling};
 use std::io::{self, IsTerminal};
 use std::num::NonZeroUsize;
@@ -42,6 +43,42 @@ fn read_all(arguments: &Arguments, form: Form) -> Result<Vec<Fish>, Failure> {
         [] => Reader::default().fish(&["-".into()], form),
         operands => Reader::default().fish(operands, form),
     }
+}
+
+/// The fish of all operands, of either form, but those that are typed too badly.
+fn read_typed(arguments: &Arguments) -> Result<Vec<Fish>, Failure> {
+    let fish = read_all(arguments, Form::Either)?;
+    Ok(typing::leave_out(fish, arguments.min_called))
+}
+
+pub fn join(arguments: Arguments) -> Result<(), Failure> {
+    let message = if arguments.output.is_none() {
+        Some("joined records go to a file: name it by -o FILE")
+    } else if arguments.operands.iter().all(|operand| operand == "-") {
+        // It can be read once, so the second would be empty.
+        Some("standard input is named twice")
+    } else {
+        None
+    };
+    if let Some(message) = message {
+        return Err(Failure::Usage(message.into()));
+    }
+    let typing = |operand| -> Result<Typing, Failure> {
+        let fish = Reader::default().fish(std::slice::from_ref(operand), Form::Either)?;
+        let name = input::shown(operand);
+        Ok(Typing { name, fish })
+    };
+    let [first, second] = [0, 1].map(|at| typing(&arguments.operands[at]));
+    let joined = join::join([&first?, &second?], arguments.typed_once)?;
+    for message in &joined.once {
+        complain(message);
+    }
+    typing::warn(&joined.fish);
+    // The file takes its place last, so that it is as it was where the report cannot be written.
+    let mut output = Output::open(arguments.output.as_deref())?;
+    output.write(&joined.bytes)?;
+    output::write(None, joined.report.as_bytes())?;
+    output.finish()
 }
 
 pub fn compare(arguments: Arguments) -> Result<(), Failure> {
@@ -89,20 +126,20 @@ fn one_pair(
     arguments: &Arguments,
     text: impl FnOnce(&mut Comparer, [&Fish; 2]) -> Result<String, Refusal>,
 ) -> Result<(), Failure> {
-    let fish = read_all(arguments, Form::Either)?;
+    let fish = read_typed(arguments)?;
     let pair = fish::pair(&fish, arguments.fish.first().copied())?;
     let text = text(&mut Comparer::new(), pair)?;
+    typing::warn(pair);
     output::write(arguments.output.as_deref(), text.as_bytes())
 }
 
 pub fn cover(arguments: Arguments) -> Result<(), Failure> {
-    let fish = read_all(&arguments, Form::Either)?;
-    let pairs = fish::pairs(&fish, &arguments.fish)?;
+    let fish = read_typed(&arguments)?;
+    let named = fish::pairs(&fish, &arguments.fish)?;
     let mut comparer = Comparer::new();
-    let pairs = pairs
-        .into_iter()
-        .map(|pair| Covered::new(&mut comparer, pair));
+    let pairs = named.iter().map(|pair| Covered::new(&mut comparer, *pair));
     let pairs = pairs.collect::<Result<Vec<_>, Refusal>>()?;
+    typing::warn(named.into_iter().flatten());
     let text = if arguments.json {
         cover::json(&pairs)
     } else if arguments.plot {
@@ -121,6 +158,7 @@ pub fn matrix(arguments: Arguments) -> Result<(), Failure> {
     };
     let fish = reader.fish(&arguments.operands, Form::Either)?;
     let others = reader.fish(arguments.against.as_slice(), Form::Either)?;
+    let [fish, others] = [fish, others].map(|fish| typing::leave_out(fish, arguments.min_called));
     // The core has to refuse a minimum, and a threshold, even where there is no pair.
     let threshold = arguments.at_least;
     Comparer::new().at_least(&[], &[], arguments.minimum, threshold.unwrap_or(0))?;
@@ -146,6 +184,9 @@ pub fn matrix(arguments: Arguments) -> Result<(), Failure> {
     } else {
         Box::new(Table::new(sides))
     };
+    if fish.iter().chain(&others).any(typing::is_bad) {
+        typing::warn(sides.compared(matrix.pairs.clone()));
+    }
     let mut output = Output::open(arguments.output.as_deref())?;
     if arguments.part.is_none_or(|part| part.number == 1) {
         output.write(layout.head().as_bytes())?;

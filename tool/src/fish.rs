@@ -1,15 +1,31 @@
 //! Fish, and the choice of the two that are compared.
 
 use crate::failure::Failure;
-use sigxume::{record_words, write, Refusal};
+use sigxume::{no_calls, record_words, write, Refusal};
 
 /// A fish's number and its sequence, which the core has accepted.
 pub struct Fish {
     pub id: u16,
     pub sequence: Vec<u32>,
+    /// How many of its words are no-calls: counted once, as a fish may be compared with thousands.
+    pub no_calls: usize,
 }
 
 impl Fish {
+    pub fn new(id: u16, sequence: Vec<u32>) -> Self {
+        let no_calls = no_calls(&sequence);
+        Self {
+            id,
+            sequence,
+            no_calls,
+        }
+    }
+
+    /// How many of its words are called.
+    pub fn calls(&self) -> usize {
+        self.sequence.len() - self.no_calls
+    }
+
     /// Its record, by the core's writer.
     pub fn record(&self) -> Result<Vec<u32>, Refusal> {
         let mut record = vec![0; record_words(self.sequence.len())];

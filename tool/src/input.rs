@@ -87,7 +87,7 @@ impl Reader {
         for record in records.by_ref() {
             match record {
                 Ok(sigxume::Entry { id, sequence, .. }) => {
-                    fish.push(Fish { id, sequence });
+                    fish.push(Fish::new(id, sequence));
                     number += 1;
                 }
                 Err(refusal) => refused = Some(refusal),
@@ -169,7 +169,8 @@ fn files_of(folder: &Path) -> io::Result<Vec<OsString>> {
     Ok(files)
 }
 
-fn shown(operand: &OsStr) -> String {
+/// A file's name in messages.
+pub fn shown(operand: &OsStr) -> String {
     match operand.to_str() {
         Some("-") => "standard input".into(),
         _ => operand.to_string_lossy().into(),

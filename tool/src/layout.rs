@@ -113,10 +113,11 @@ impl Layout for Table<'_> {
 
 impl Layout for Lines<'_> {
     fn head(&self) -> String {
-        format!("{NAMED},tiles,covered,score\n")
+        format!("{NAMED},tiles,covered,score,first_no_calls,second_no_calls\n")
     }
 
     fn pair(&mut self, text: &mut String, pair: Pair, answer: Comparison) {
+        let [first, second] = self.sides.fish(pair).map(|fish| fish.no_calls);
         let pair = named(self.sides, pair);
         let Comparison {
             tiles,
@@ -124,7 +125,7 @@ impl Layout for Lines<'_> {
             score,
             ..
         } = answer;
-        let _ = writeln!(text, "{pair},{tiles},{covered},{score}");
+        let _ = writeln!(text, "{pair},{tiles},{covered},{score},{first},{second}");
     }
 
     fn tail(&mut self, _: &mut Output) -> Result<(), Failure> {

@@ -11,6 +11,7 @@ mod failure;
 mod fish;
 mod help;
 mod input;
+mod join;
 mod layout;
 mod listing;
 mod matrix;
@@ -21,6 +22,7 @@ mod progress;
 mod ranking;
 mod svg;
 mod text;
+mod typing;
 mod usage;
 mod verdict;
 
@@ -37,7 +39,7 @@ struct Subcommand {
     run: fn(Arguments) -> Result<(), Failure>,
 }
 
-const SUBCOMMANDS: [Subcommand; 7] = [
+const SUBCOMMANDS: [Subcommand; 8] = [
     Subcommand {
         name: "encode",
         accepted: Accepted {
@@ -59,9 +61,26 @@ const SUBCOMMANDS: [Subcommand; 7] = [
         run: commands::decode,
     },
     Subcommand {
+        name: "join",
+        accepted: Accepted {
+            options: &["typed-once", "output"],
+            repeated: &[],
+            operands: 2..=2,
+        },
+        help: help::JOIN,
+        run: commands::join,
+    },
+    Subcommand {
         name: "compare",
         accepted: Accepted {
-            options: &["minimum", "fish", "at-least", "json", "output"],
+            options: &[
+                "minimum",
+                "fish",
+                "at-least",
+                "min-called",
+                "json",
+                "output",
+            ],
             repeated: &[],
             operands: 1..=2,
         },
@@ -71,7 +90,7 @@ const SUBCOMMANDS: [Subcommand; 7] = [
     Subcommand {
         name: "plot",
         accepted: Accepted {
-            options: &["minimum", "fish", "output"],
+            options: &["minimum", "fish", "min-called", "output"],
             repeated: &[],
             operands: 1..=2,
         },
@@ -81,7 +100,7 @@ const SUBCOMMANDS: [Subcommand; 7] = [
     Subcommand {
         name: "cover",
         accepted: Accepted {
-            options: &["fish", "all", "json", "plot", "output"],
+            options: &["fish", "min-called", "all", "json", "plot", "output"],
             repeated: &["fish"],
             operands: 1..=2,
         },
@@ -98,6 +117,7 @@ const SUBCOMMANDS: [Subcommand; 7] = [
                 "at-least",
                 "top",
                 "against",
+                "min-called",
                 "keep-going",
                 "threads",
                 "output",

@@ -44,6 +44,19 @@ impl<'a> Sides<'a> {
         pairs.skip(number)
     }
 
+    /// The fish of the pairs with these numbers: those of rows, then those of columns, which may be the same.
+    pub fn compared(self, pairs: Range<usize>) -> impl Iterator<Item = &'a Fish> {
+        let sides = [self.rows, self.columns()];
+        let mut taken = sides.map(|side| vec![false; side.len()]);
+        for (row, column) in self.pairs_from(pairs.start).take(pairs.len()) {
+            taken[0][row] = true;
+            taken[1][column] = true;
+        }
+        let sides = sides.into_iter().zip(taken);
+        let sides = sides.flat_map(|(side, taken)| side.iter().zip(taken));
+        sides.filter_map(|(fish, taken)| taken.then_some(fish))
+    }
+
     /// How many there are.
     pub fn count(self) -> usize {
         let rows = 0..self.rows.len();

@@ -5,7 +5,7 @@ use crate::axis::Axis;
 use crate::chain;
 use crate::fish::Fish;
 use crate::svg::{counted, factor, Axes, Picture};
-use sigxume::{Tile, Tiling};
+use sigxume::{Symbol, Tile, Tiling};
 use std::ops::Range;
 
 /// Where the plot's upper left corner is, what is free right of it and below it, and the least width of the
@@ -13,19 +13,25 @@ use std::ops::Range;
 const LEFT: f64 = 80.0;
 const TOP: f64 = 140.0;
 const FREE: f64 = 28.0;
-const LEAST: f64 = 480.0;
+const LEAST: f64 = 560.0;
 
 /// A band lies so far outside the plot and is so wide; the numbers stand further outside.
 const OUTSIDE: f64 = 12.0;
 const BAND: f64 = 8.0;
 const NUMBERS: f64 = 18.0;
 
-// A moved tile is told apart by colour, by its lightness in grey print, and by its width.
+/// A mark of no-calls stands out of its band so far on either side, and is so high.
+const OUT: f64 = 2.0;
+const MARK: f64 = BAND + 2.0 * OUT;
+
+// A moved tile is told apart by colour, by its lightness in grey print, and by its width; a no-call is black, and higher
+// than what is covered.
 const STYLE: &str = "\
 .band { fill: #eeeeee; }
 .kept { fill: #004488; stroke: #004488; stroke-linecap: round; }
 .moved { fill: #e07b00; stroke: #e07b00; stroke-linecap: round; }
 .cover { stroke: none; }
+.no-call { fill: #000000; stroke: none; }
 ";
 
 /// The widths of the tiles' lines, in order and moved.
@@ -57,6 +63,11 @@ pub fn plot(fish: [&Fish; 2], minimum: u32, tiling: Tiling) -> String {
     let keys = [
         format!("{} in order", counted(in_order, "tile")),
         format!("{} moved", counted(tiles.len() - in_order, "tile")),
+        format!(
+            "{} and {}",
+            fish[0].no_calls,
+            counted(fish[1].no_calls, "no-call")
+        ),
     ];
     let picture = Picture {
         width: (LEFT + across.length + FREE).max(LEAST),
@@ -64,7 +75,8 @@ pub fn plot(fish: [&Fish; 2], minimum: u32, tiling: Tiling) -> String {
         heading: &heading,
         description: &format!(
             "{facts}; {}. The first sequence runs from left to right and the second from top to bottom. Each tile \
-             is a slanting line from where it starts to where it ends in both.",
+             is a slanting line from where it starts to where it ends in both. The bands along the edges show what the \
+             tiles cover, and the no-calls.",
             keys.join(", ")
         ),
         style: &(String::from(STYLE) + &widths(&sequences)),
@@ -77,7 +89,7 @@ pub fn plot(fish: [&Fish; 2], minimum: u32, tiling: Tiling) -> String {
     picture.with(&[
         legend(&heading, &facts, &keys),
         axes.draw(),
-        bands(&sequences, &tiles),
+        bands(fish, &sequences, &tiles),
         nothing,
         lines(&axes, &sequences, &tiles),
     ])
@@ -103,7 +115,7 @@ fn widths([across, down]: &[Axis; 2]) -> String {
     )
 }
 
-fn legend(heading: &str, facts: &str, [kept, moved]: &[String; 2]) -> String {
+fn legend(heading: &str, facts: &str, [kept, moved, no_calls]: &[String; 3]) -> String {
     format!(
         r#"<g id="legend">
 <text class="heading" x="16" y="28">{heading}</text>
@@ -112,22 +124,42 @@ fn legend(heading: &str, facts: &str, [kept, moved]: &[String; 2]) -> String {
 <text x="52" y="72">{kept}</text>
 <path class="moved" d="M202 68H226"/>
 <text x="236" y="72">{moved}</text>
+<rect class="no-call" x="362" y="62" width="24" height="{MARK}"/>
+<text x="396" y="72">{no_calls}</text>
 </g>
 "#
     )
 }
 
-/// The stretches that tiles cover, along both axes.
-fn bands([across, down]: &[Axis; 2], tiles: &[(Tile, &str)]) -> String {
+/// The stretches that tiles cover and the no-calls, along both axes.
+fn bands(fish: [&Fish; 2], [across, down]: &[Axis; 2], tiles: &[(Tile, &str)]) -> String {
     let above = format!("translate({LEFT} {})", TOP - OUTSIDE);
     // With the coordinates changed over, what runs to the right runs down.
     let beside = format!("translate({} {TOP}) matrix(0 1 1 0 0 0)", LEFT - OUTSIDE);
     let [first, second] = [|tile: Tile| tile.first, |tile: Tile| tile.second];
-    band("first-covered", &above, across, stretches(tiles, first))
-        + &band("second-covered", &beside, down, stretches(tiles, second))
+    let [above_no_calls, beside_no_calls] = fish.map(no_calls);
+    band(
+        "first-band",
+        &above,
+        across,
+        stretches(tiles, first),
+        above_no_calls,
+    ) + &band(
+        "second-band",
+        &beside,
+        down,
+        stretches(tiles, second),
+        beside_no_calls,
+    )
 }
 
-fn band(name: &str, turn: &str, axis: &Axis, stretches: Vec<(Range<usize>, &str)>) -> String {
+fn band(
+    name: &str,
+    turn: &str,
+    axis: &Axis,
+    stretches: Vec<(Range<usize>, &str)>,
+    no_calls: Vec<Range<usize>>,
+) -> String {
     let scale = factor(axis.scale());
     let words = axis.words;
     let mut text = format!(
@@ -140,7 +172,31 @@ fn band(name: &str, turn: &str, axis: &Axis, stretches: Vec<(Range<usize>, &str)
             "<rect class=\"cover {class}\" x=\"{start}\" width=\"{width}\" height=\"{BAND}\"/>\n"
         );
     }
+    let up = -OUT;
+    for Range { start, end } in no_calls {
+        let width = end - start;
+        let title = counted(width, "no-call");
+        text += &format!(
+            "<rect class=\"no-call\" x=\"{start}\" y=\"{up}\" width=\"{width}\" height=\"{MARK}\">\
+             <title>{title} from position {start}</title></rect>\n"
+        );
+    }
     text + "</g>\n"
+}
+
+/// The no-calls of a fish, neighbours as one range.
+fn no_calls(fish: &Fish) -> Vec<Range<usize>> {
+    let no_call = Symbol::NoCall.word();
+    let mut next = 0;
+    let alike = fish
+        .sequence
+        .chunk_by(|a, b| (*a == no_call) == (*b == no_call));
+    let ranges = alike.filter_map(|words| {
+        let start = next;
+        next += words.len();
+        (words[0] == no_call).then_some(start..next)
+    });
+    ranges.collect()
 }
 
 /// What tiles cover of a sequence, in order. Neighbours of one class are joined, as no gap may show.

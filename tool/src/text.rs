@@ -25,7 +25,7 @@ fn parse_line(line: &[u8]) -> Result<Fish, Fault> {
         last = line.at;
         sequence.push(line.symbol()?.word());
     }
-    let fish = Fish { id, sequence };
+    let fish = Fish::new(id, sequence);
     match fish.record() {
         Ok(_) => Ok(fish),
         Err(refusal) => Err(fault(last, &refusal.to_string())),

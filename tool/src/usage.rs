@@ -1,5 +1,6 @@
 //! The command line: one table of options, and one parser for all subcommands.
 
+use crate::join::TypedOnce;
 use std::ffi::{OsStr, OsString};
 use std::num::NonZeroUsize;
 use std::ops::RangeInclusive;
@@ -16,6 +17,9 @@ pub struct Arguments {
     pub at_least: Option<u32>,
     /// The most pairs of a list.
     pub top: Option<NonZeroUsize>,
+    /// The least share of called words, in per cent.
+    pub min_called: usize,
+    pub typed_once: TypedOnce,
     pub output: Option<PathBuf>,
     /// One pair at most, but where `--fish` may be repeated.
     pub fish: Vec<[u16; 2]>,
@@ -60,7 +64,7 @@ enum Takes {
     Value(&'static str, fn(&mut Arguments, &OsStr) -> Option<()>),
 }
 
-const TABLE: [Row; 14] = [
+const TABLE: [Row; 16] = [
     Row {
         long: "minimum",
         short: Some(b'm'),
@@ -82,6 +86,26 @@ const TABLE: [Row; 14] = [
         short: None,
         takes: Value("a number from 1", |arguments, value| {
             arguments.top = Some(number(value.to_str()?)?);
+            Some(())
+        }),
+    },
+    Row {
+        long: "min-called",
+        short: None,
+        takes: Value("a number from 0 to 100", |arguments, value| {
+            arguments.min_called = number(value.to_str()?)?;
+            (arguments.min_called <= 100).then_some(())
+        }),
+    },
+    Row {
+        long: "typed-once",
+        short: None,
+        takes: Value("keep or leave-out", |arguments, value| {
+            arguments.typed_once = match value.to_str()? {
+                "keep" => TypedOnce::Keep,
+                "leave-out" => TypedOnce::LeaveOut,
+                _ => return None,
+            };
             Some(())
         }),
     },
@@ -230,7 +254,8 @@ pub fn parse(arguments: &[OsString], accepted: &Accepted) -> Result<Arguments, S
     together(&given, &parsed)?;
     let [least, most] = [accepted.operands.start(), accepted.operands.end()];
     match parsed.operands.len() {
-        found if found < *least => Err("no file is named".into()),
+        0 if *least > 0 => Err("no file is named".into()),
+        1 if *least > 1 => Err(format!("1 file is named, {least} are wanted")),
         found if found > 0 && *most == 0 => Err("a file is named, but none is taken".into()),
         found if found > *most => Err(format!("{found} files are named, at most {most} are taken")),
         _ => Ok(parsed),

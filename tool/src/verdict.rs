@@ -1,6 +1,7 @@
 //! Whether one pair's score reaches a line: for people, and for programs, as JSON.
 
 use crate::fish::Fish;
+use crate::listing::named;
 use sigxume::Verdict;
 
 /// Two lines in the manner of the listing.
@@ -10,13 +11,10 @@ pub fn lines(threshold: u32, verdict: Verdict) -> String {
 }
 
 /// One line of JSON.
-pub fn json([first, second]: [&Fish; 2], minimum: u32, threshold: u32, verdict: Verdict) -> String {
+pub fn json(pair: [&Fish; 2], minimum: u32, threshold: u32, verdict: Verdict) -> String {
     format!(
-        r#"{{"fish":[{},{}],"minimum":{minimum},"lengths":[{},{}],"threshold":{threshold},"reached":{},"tiles":{}}}"#,
-        first.id,
-        second.id,
-        first.sequence.len(),
-        second.sequence.len(),
+        r#"{{{},"threshold":{threshold},"reached":{},"tiles":{}}}"#,
+        named(pair, minimum),
         verdict.reached,
         verdict.tiles
     ) + "\n"

@@ -176,7 +176,7 @@ fn check_list(sequences: &[Vec<u32>], list: &str) -> io::Result<usize> {
     for line in list.lines().step_by(COMPARED) {
         let numbers = line.split(',').map(|number| number.parse().ok());
         let score = match Vec::from_iter(numbers)[..] {
-            [Some(i), Some(j), _, _, _, _, Some(score)] => {
+            [Some(i), Some(j), _, _, _, _, Some(score), Some(0), Some(0)] => {
                 let [first, second]: [&[u32]; 2] = [i, j].map(|at: usize| &sequences[at - 1][..]);
                 let tiling = comparer.compare(first, second, MINIMUM);
                 tiling.expect("an accepted pair").score() as usize == score

@@ -9,8 +9,9 @@ use sigxume_tests::comparisons::{
 use sigxume_tests::cover;
 use sigxume_tests::group::Group;
 use sigxume_tests::tool::{
-    self, bad_lines, bad_records, codes, compare, curves, json, matrix, matrix_bad, matrix_large,
-    matrix_mirror, options, output, plot, progress, ranking, round_trips, sides, usage, verdict,
+    self, bad_lines, bad_records, codes, compare, curves, join, join_bad, json, matrix, matrix_bad,
+    matrix_large, matrix_mirror, min_called, options, output, plot, progress, ranking, round_trips,
+    sides, usage, verdict, warned,
 };
 use sigxume_tests::{
     baselines, documents, hashes, known, library, machine, merge, program, records, retired, stack,
@@ -172,6 +173,8 @@ const GROUPS: &[Row] = &[
     ("tool: encode and decode", 61, round_trips::encode_and_decode),
     ("tool: bad lines", 62, bad_lines::bad_lines),
     ("tool: bad records", 63, bad_records::bad_records),
+    ("tool: join", 94, join::join),
+    ("tool: join, bad input", 95, join_bad::join_bad),
     ("tool: compare", 64, compare::compare),
     ("tool: JSON", 65, json::json),
     ("tool: compare, at a line", 93, verdict::verdict),
@@ -184,6 +187,8 @@ const GROUPS: &[Row] = &[
     ("tool: matrix, mirrored", 90, matrix_mirror::mirrored),
     ("tool: matrix, at a line", 91, ranking::ranking),
     ("tool: matrix, two sides", 92, sides::sides),
+    ("tool: badly typed fish", 96, warned::warnings),
+    ("tool: badly typed fish left out", 97, min_called::min_called),
     ("tool: output", 70, output::output),
     ("tool: options", 71, options::options),
     ("tool: usage", 72, usage::usage),

@@ -8,19 +8,24 @@ use crate::group::Group;
 use crate::known;
 
 /// What a command must print of two fish.
-type Prints = fn(&Fish, &Fish) -> String;
+type Prints = fn(&Fish, &Fish) -> Expected;
 
 /// The commands that compare two fish, each up to its operands.
 const COMMANDS: [(&[&str], Prints); 3] = [
     (&["compare", "-m", "1"], |first, second| {
-        Compared::new(first, second, 1).listing()
+        let compared = Compared::new(first, second, 1);
+        compared.prints(compared.listing())
     }),
     (
         &["compare", "-m", "1", "--at-least", "500", "--json"],
-        |first, second| Compared::new(first, second, 1).verdict_json(500),
+        |first, second| {
+            let compared = Compared::new(first, second, 1);
+            compared.prints(compared.verdict_json(500))
+        },
     ),
     (&["cover"], |first, second| {
-        Covers::new(first, second).table()
+        let covers = Covers::new(first, second);
+        Covers::print(&[&covers], covers.table())
     }),
 ];
 
@@ -47,7 +52,7 @@ pub fn chosen(g: &mut Group, tool: &Tool) {
     tool.put("one", records(&all[1..2]));
     for (command, prints) in COMMANDS {
         let args = [command, &["one", "one"]].concat();
-        let expected = Expected::prints(prints(&all[1], &all[1]));
+        let expected = prints(&all[1], &all[1]);
         tool.expect(g, format_args!("the same file"), &args, b"", &expected);
     }
 }
@@ -62,7 +67,7 @@ fn named(
     sources: &[&[&str]],
 ) {
     let is = |line: &str| Expected::fails(Line::Is(format!("sigxume: {line}")));
-    let printed = |a: usize, b: usize| Expected::prints(prints(&all[a], &all[b]));
+    let printed = |a: usize, b: usize| prints(&all[a], &all[b]);
     let rows = [
         ("13,65535", printed(1, 4)),
         ("65535,13", printed(4, 1)),
@@ -121,7 +126,7 @@ pub fn very_many(g: &mut Group, tool: &Tool) {
     tool.put("many", records(&all));
     tool.put("many.txt", text(&all));
     for (command, prints) in COMMANDS {
-        let expected = Expected::prints(prints(&all[19_999], &all[3]));
+        let expected = prints(&all[19_999], &all[3]);
         for file in ["many", "many.txt"] {
             let args = [command, &["--fish", "19999,3", file]].concat();
             tool.expect(g, format_args!("20,000 fish"), &args, b"", &expected);

@@ -2,6 +2,7 @@
 
 use super::expected::Expected;
 use super::fish::{records, text, Fish};
+use super::typing::warnings;
 use super::Tool;
 use crate::group::Group;
 use crate::reference::{replaced_words, RETIRED};
@@ -15,7 +16,7 @@ fn list(g: &mut Group, tool: &Tool) {
     let printed = Expected::prints(&rows[..]);
     tool.expect(g, case, &["codes"], b"not read", &printed);
     tool.expect(g, case, &["codes", "--"], b"", &printed);
-    tool.expect_written(g, case, &["codes"], b"", rows.as_bytes());
+    tool.expect_written(g, case, &["codes"], b"", &printed);
 }
 
 /// Fish with retired codes. Text and records keep every code. Of fish with different numbers of words, where the codes do
@@ -65,7 +66,7 @@ pub fn codes(g: &mut Group) {
                 due.is_empty(),
                 false,
             );
-            let printed = Expected::prints(due);
+            let printed = Expected::prints(due).after(warnings(&old));
             tool.expect(g, case, args, &text(&old), &printed);
             tool.expect(g, case, args, &records(&old), &printed);
         }

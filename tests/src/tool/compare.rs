@@ -4,7 +4,8 @@ use super::choice;
 use super::expected::{differing, Expected, Line};
 use super::faults::{first, lines, records as read, refusal};
 use super::fish::{records, text, Fish};
-use super::results::Compared;
+use super::results::{with_no_calls, Compared};
+use super::typing::no_calls;
 use super::Tool;
 use crate::group::Group;
 use crate::known;
@@ -58,8 +59,8 @@ pub fn larger(g: &mut Group) -> Vec<([Fish; 2], u32)> {
 
 /// The tool must print a pair's listing: two files of either form, one file of either form, standard input.
 fn listed(g: &mut Group, tool: &Tool, case: Arguments, pair: &[Fish; 2], minimum: u32) {
-    let listing = Compared::new(&pair[0], &pair[1], minimum).listing();
-    let expected = Expected::prints(&listing[..]);
+    let compared = Compared::new(&pair[0], &pair[1], minimum);
+    let expected = compared.prints(compared.listing());
     let minimum = minimum.to_string();
     let forms = [text as fn(&[Fish]) -> Vec<u8>, records];
     for (number, form) in forms.iter().enumerate() {
@@ -80,16 +81,11 @@ fn listed(g: &mut Group, tool: &Tool, case: Arguments, pair: &[Fish; 2], minimum
     tool.expect(g, case, &args, &records(&pair[..1]), &expected);
     let args = ["compare", "-m", &minimum, "-"];
     tool.expect(g, case, &args, &text(pair), &expected);
-    tool.expect_written(
-        g,
-        case,
-        &["compare", "-m", &minimum, "both1"],
-        b"",
-        listing.as_bytes(),
-    );
+    let args = ["compare", "-m", &minimum, "both1"];
+    tool.expect_written(g, case, &args, b"", &expected);
 }
 
-/// The tool must print what the pair program prints.
+/// The tool must print what the pair program prints, with the line of the no-calls.
 fn as_the_program(g: &mut Group, tool: &Tool, case: Arguments, pair: &[Fish; 2], minimum: u32) {
     let ids = [pair[0].id, pair[1].id];
     let words = [pair[0].words.clone(), pair[1].words.clone()];
@@ -97,7 +93,10 @@ fn as_the_program(g: &mut Group, tool: &Tool, case: Arguments, pair: &[Fish; 2],
     let args = ["compare", "-m", &minimum.to_string(), "-"];
     let ran = tool.run(&args, &records(pair));
     let difference = match (printed, ran) {
-        (Ok(printed), Ok(ran)) => differing(&ran.stdout, printed.as_bytes()),
+        (Ok(printed), Ok(ran)) => {
+            let no_calls = [&pair[0], &pair[1]].map(no_calls);
+            differing(&ran.stdout, with_no_calls(&printed, no_calls).as_bytes())
+        }
         (printed, ran) => Some(format!("{:?}, {:?}", printed.err(), ran.err())),
     };
     g.equal(format_args!("{case}: pair program"), difference, None);
@@ -215,7 +214,7 @@ pub fn compare(g: &mut Group) {
     }
     let example = b"12 3 1 1 2 1 1 4\n13 2 1 1 4 3 1 1 1 1 2 1 1\n";
     let case = format_args!("worked example");
-    let expected = Expected::prints(known::LISTING);
+    let expected = Expected::prints(with_no_calls(known::LISTING, [0, 0]));
     tool.expect(g, case, &["compare", "-m1", "-"], example, &expected);
     for number in 0..50 {
         let (pair, minimum) = any_fish_pair(g);

@@ -59,7 +59,7 @@ fn one(
     tool.put("first", records(&pair[..1]));
     tool.put("second.txt", text(&pair[1..]));
     for (options, printed) in forms(&[covers]) {
-        let expected = Expected::prints(&printed[..]);
+        let expected = Covers::print(&[covers], &printed[..]);
         for files in [&["both"][..], &["both.txt"], &["first", "second.txt"]] {
             let args = [&["cover"], options, files].concat();
             tool.expect(g, case, &args, b"", &expected);
@@ -67,7 +67,7 @@ fn one(
         let args = [&["cover", "-"], options].concat();
         tool.expect(g, case, &args, &text(pair), &expected);
         if write {
-            tool.expect_written(g, case, &args, &records(pair), printed.as_bytes());
+            tool.expect_written(g, case, &args, &records(pair), &expected);
         }
     }
 }
@@ -113,14 +113,14 @@ fn several(g: &mut Group, tool: &Tool) {
         let names = Vec::from_iter(names.iter().map(|name| &name[..]));
         let case = format_args!("several pairs {number}");
         for (options, printed) in forms(&pairs) {
-            let expected = Expected::prints(&printed[..]);
+            let expected = Covers::print(&pairs, &printed[..]);
             for files in [&["all"][..], &["front.txt", "back"]] {
                 let args = [&["cover"], &names[..], options, files].concat();
                 tool.expect(g, case, &args, b"", &expected);
             }
             if number < 3 {
                 let args = [&["cover", "all"], options, &names].concat();
-                tool.expect_written(g, case, &args, b"", printed.as_bytes());
+                tool.expect_written(g, case, &args, b"", &expected);
             }
         }
     }

@@ -2,7 +2,6 @@
 
 use super::compare::{any_fish_pair, known_pairs, larger};
 use super::cover::{any_pairs, numbered_fish};
-use super::expected::Expected;
 use super::fish::{records, text};
 use super::results::Covers;
 use super::svg;
@@ -259,11 +258,10 @@ impl Pictures {
         self.tool.put(&format!("{number}.svg"), &picture);
         let case = format_args!("picture {number}");
         g.equal(case, picture.is_empty(), false);
-        let same = Expected::prints(picture.clone());
+        let same = Covers::print(&Vec::from_iter(&pairs), picture);
         self.tool.expect(g, case, &args, &sources[1], &same);
         if number < 10 {
-            self.tool
-                .expect_written(g, case, &args, &sources[0], &picture);
+            self.tool.expect_written(g, case, &args, &sources[0], &same);
         }
         self.pairs.push(pairs);
     }

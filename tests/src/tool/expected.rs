@@ -41,6 +41,12 @@ impl Expected {
         }
     }
 
+    /// The same after these lines on standard error.
+    pub fn after(mut self, lines: Vec<Line>) -> Self {
+        self.stderr.splice(0..0, lines);
+        self
+    }
+
     /// It prints nothing but one line on standard error.
     pub fn fails(line: Line) -> Self {
         Self {

@@ -13,8 +13,8 @@ use crate::reference::MINIMUM;
 /// Prints the values of each text in a form of its own.
 const SCRIPT: &str = r#"
 for names, d in texts():
-    assert all(type(n) is int for n in d['fish'] + d['lengths'] + [d['minimum'], d['covered'], d['score']])
-    print(names, *d['fish'], d['minimum'], *d['lengths'], d['covered'], d['score'], sep='|')
+    assert all(type(n) is int for n in d['fish'] + d['lengths'] + d['no_calls'] + [d['minimum'], d['covered'], d['score']])
+    print(names, *d['fish'], d['minimum'], *d['lengths'], *d['no_calls'], d['covered'], d['score'], sep='|')
     for names, tile in d['tiles']:
         assert all(type(n) is int for n in tile.values())
         print(names, tile['first'], tile['second'], tile['length'], tile['shift'], sep='|')
@@ -23,8 +23,9 @@ for names, d in texts():
 /// What the script must print for a pair.
 fn values(compared: &Compared) -> String {
     let ([a, b], [n, m]) = (compared.ids(), compared.lengths());
+    let [p, q] = compared.no_calls();
     let mut lines = format!(
-        "fish minimum lengths tiles covered score|{a}|{b}|{}|{n}|{m}|{}|{}\n",
+        "fish minimum lengths no_calls tiles covered score|{a}|{b}|{}|{n}|{m}|{p}|{q}|{}|{}\n",
         compared.minimum,
         compared.covered(),
         compared.score()
@@ -56,22 +57,22 @@ pub fn json(g: &mut Group) {
             records(pair)
         };
         let case = format_args!("pair {number}");
-        tool.expect(g, case, &args, &input, &Expected::prints(compared.json()));
+        let due = compared.prints(compared.json());
+        tool.expect(g, case, &args, &input, &due);
         // The parser gets the bytes of the tool, not the expected ones.
         if let Ok(ran) = tool.run(&args, &input) {
             printed.extend(ran.stdout);
         }
         expected += &values(&compared);
         if number < 20 {
-            let made = compared.json();
-            tool.expect_written(g, case, &args, &input, made.as_bytes());
+            tool.expect_written(g, case, &args, &input, &due);
         }
     }
     let read = python::read_texts(SCRIPT, &tool, &printed);
     let difference = read.map(|read| differing(read.as_bytes(), expected.as_bytes()));
     g.equal(format_args!("read by Python"), difference, Ok(None));
     let example =
-        "{\"fish\":[12,13],\"minimum\":2,\"lengths\":[7,12],\"tiles\":[{\"first\":1,\"second\":7,\
+        "{\"fish\":[12,13],\"minimum\":2,\"lengths\":[7,12],\"no_calls\":[0,0],\"tiles\":[{\"first\":1,\"second\":7,\
                    \"length\":5,\"shift\":6}],\"covered\":5,\"score\":526}\n";
     let lines = b"12 3 1 1 2 1 1 4\n13 2 1 1 4 3 1 1 1 1 2 1 1\n";
     let args = ["compare", "-", "-m", "2", "--json"];

@@ -3,7 +3,7 @@
 use super::expected::{differing, Expected, Line};
 use super::faults::refusal;
 use super::fish::{records, text, Fish};
-use super::results::Matrix;
+use super::results::{Matrix, PAIRS};
 use super::Tool;
 use crate::group::Group;
 use crate::known::letters;
@@ -67,21 +67,21 @@ fn forms(g: &mut Group, tool: &Tool, all: &[Fish], minimum: u32) {
     for (paths, input) in sources(tool, all) {
         for (option, made) in &layouts {
             let args = [&["matrix", "-m", &minimum], *option, &paths].concat();
-            tool.expect(g, case, &args, &input, &Expected::prints(&made[..]));
+            tool.expect(g, case, &args, &input, made);
         }
     }
     for threads in ["1", "2", "5"] {
         for (option, made) in &layouts {
             let args = ["matrix", "--threads", threads, "-m", &minimum, "all"];
             let args = [&args[..], option].concat();
-            tool.expect(g, case, &args, b"", &Expected::prints(&made[..]));
-            tool.expect_written(g, case, &args, b"", made.as_bytes());
+            tool.expect(g, case, &args, b"", made);
+            tool.expect_written(g, case, &args, b"", made);
         }
     }
     // With --keep-going nothing changes where nothing is bad.
     for option in ["-k", "--keep-going"] {
         let args = ["matrix", "-m", &minimum, "folder", option];
-        tool.expect(g, case, &args, b"", &Expected::prints(matrix.table()));
+        tool.expect(g, case, &args, b"", &matrix.prints(matrix.table()));
     }
 }
 
@@ -94,8 +94,7 @@ pub fn parts(g: &mut Group, tool: &Tool, case: Arguments, args: &[&str], matrix:
         for part in 1..=of {
             let option = format!("{part}/{of}");
             let args = [&["matrix", "--pairs", "--part", &option], args].concat();
-            let expected = matrix.part(part, of);
-            tool.expect(g, case, &args, b"", &Expected::prints(expected));
+            tool.expect(g, case, &args, b"", &matrix.part(part, of));
             joined.extend(
                 tool.run(&args, b"")
                     .map(|ran| ran.stdout)
@@ -106,13 +105,13 @@ pub fn parts(g: &mut Group, tool: &Tool, case: Arguments, args: &[&str], matrix:
         g.equal(format_args!("{case}, {of} parts joined"), difference, None);
     }
     // Numbers of parts whose products with the pairs have more than 64 bits.
-    let (heading, mut lines) = matrix.list();
     let most = u64::MAX;
-    for (part, expected) in [(1, heading), (most, lines.pop().unwrap_or_default())] {
+    for part in [1, most] {
         let option = format!("--part={part}/{most}");
         let args = [&["matrix", "--pairs", &option], args].concat();
         let case = format_args!("{case}, very many parts");
-        tool.expect(g, case, &args, b"", &Expected::prints(expected));
+        let expected = matrix.part(part as usize, most as usize);
+        tool.expect(g, case, &args, b"", &expected);
     }
 }
 
@@ -128,23 +127,22 @@ pub fn example_fish() -> Vec<Fish> {
 fn example(g: &mut Group, tool: &Tool) {
     let all = example_fish();
     let case = format_args!("example");
-    let heading = "row,column,first_fish,second_fish,tiles,covered,score\n";
     for (count, table, list) in [
         (0, "fish\n", ""),
         (1, "fish,12\n12,\n", ""),
-        (2, "fish,12,13\n12,,736\n13,736,\n", "1,2,12,13,3,7,736\n"),
+        (2, "fish,12,13\n12,,736\n13,736,\n", "1,2,12,13,3,7,736,0,0\n"),
         (
             4,
             "fish,12,13,14,15\n12,,736,444,0\n13,736,,285,0\n14,444,285,,0\n15,0,0,0,\n",
-            "1,2,12,13,3,7,736\n1,3,12,14,1,2,444\n1,4,12,15,0,0,0\n2,3,13,14,1,2,285\n2,4,13,15,0,0,0\n\
-             3,4,14,15,0,0,0\n",
+            "1,2,12,13,3,7,736,0,0\n1,3,12,14,1,2,444,0,0\n1,4,12,15,0,0,0,0,0\n2,3,13,14,1,2,285,0,0\n2,4,13,15,0,0,0,0,0\n\
+             3,4,14,15,0,0,0,0,0\n",
         ),
     ] {
         let input = text(&all[..count]);
         let args = ["matrix", "-m", "1", "-"];
         tool.expect(g, case, &args, &input, &Expected::prints(table));
         let args = ["matrix", "-m", "1", "-", "--pairs"];
-        let list = heading.to_string() + list;
+        let list = PAIRS.to_string() + list;
         tool.expect(g, case, &args, &input, &Expected::prints(list));
     }
 }

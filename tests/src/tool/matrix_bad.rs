@@ -91,8 +91,7 @@ pub fn check_sides(
     for (option, made) in matrix.layouts() {
         let kept = Expected {
             status: i32::from(!found.left_out.is_empty()),
-            stdout: made.into_bytes(),
-            stderr: found.left_out.clone(),
+            ..made.after(found.left_out.clone())
         };
         let args = [&["matrix", "-m", "1"], option, paths].concat();
         match found.first.clone() {

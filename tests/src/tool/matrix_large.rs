@@ -44,7 +44,7 @@ pub fn large(g: &mut Group) {
         ] {
             let args = [&["matrix", "-m", &minimum], option, rest].concat();
             let case = format_args!("64 fish");
-            tool.expect(g, case, &args, b"", &Expected::prints(&made[..]));
+            tool.expect(g, case, &args, b"", &made);
         }
     }
     for part in 1..=5 {
@@ -53,11 +53,11 @@ pub fn large(g: &mut Group) {
             "matrix", "-m", &minimum, "--pairs", "--part", &option, "all",
         ];
         let case = format_args!("64 fish");
-        tool.expect(g, case, &args, b"", &Expected::prints(matrix.part(part, 5)));
+        tool.expect(g, case, &args, b"", &matrix.part(part, 5));
     }
     let args = ["matrix", "-m", &minimum, "all"];
-    let table = matrix.table();
-    tool.expect_written(g, format_args!("64 fish"), &args, b"", table.as_bytes());
+    let table = matrix.prints(matrix.table());
+    tool.expect_written(g, format_args!("64 fish"), &args, b"", &table);
     others(g, &tool, &all);
     many(g, &tool);
 }
@@ -86,7 +86,7 @@ fn others(g: &mut Group, tool: &Tool, all: &[Fish]) {
             (&["plot"], drawn.clone()),
         ] {
             let args = [args, &["-m", &minimum, "--fish", "43,41", file]].concat();
-            tool.expect(g, case, &args, b"", &Expected::prints(printed));
+            tool.expect(g, case, &args, b"", &compared.prints(printed));
         }
     }
 }
@@ -108,8 +108,8 @@ fn many(g: &mut Group, tool: &Tool) {
     for threads in ["1", "2", "9"] {
         let args = ["matrix", "-m1", "--threads", threads, "many.txt"];
         let case = format_args!("300 fish");
-        tool.expect(g, case, &args, b"", &Expected::prints(matrix.table()));
+        tool.expect(g, case, &args, b"", &matrix.prints(matrix.table()));
         let args = [&args[..], &["--pairs"]].concat();
-        tool.expect(g, case, &args, b"", &Expected::prints(matrix.whole_list()));
+        tool.expect(g, case, &args, b"", &matrix.prints(matrix.whole_list()));
     }
 }

@@ -90,7 +90,8 @@ fn either_way(g: &mut Group, tool: &Tool, case: Arguments, all: &[Fish], minimum
     for order in [reversed, shuffled(&mut g.random, all.len())] {
         let fish = Vec::from_iter(order.iter().map(|&at| all[at].clone()));
         let args = ["matrix", "-m", &minimum.to_string(), "-"];
-        let expected = Expected::prints(Matrix::new(&fish, minimum).table());
+        let matrix = Matrix::new(&fish, minimum);
+        let expected = matrix.prints(matrix.table());
         tool.expect(g, case, &args, &text(&fish), &expected);
         let numbers = Vec::from_iter([0].into_iter().chain(order.iter().map(|at| at + 1)));
         g.equal(

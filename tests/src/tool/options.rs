@@ -10,10 +10,9 @@ use std::ffi::OsStr;
 use std::os::unix::ffi::OsStrExt;
 
 /// Arguments that mean the same.
-fn same(g: &mut Group, tool: &Tool, expected: &str, rows: &[&[&str]]) {
+fn same(g: &mut Group, tool: &Tool, expected: &Expected, rows: &[&[&str]]) {
     for args in rows {
-        let expected = Expected::prints(expected);
-        tool.expect(g, format_args!("option"), args, b"", &expected);
+        tool.expect(g, format_args!("option"), args, b"", expected);
     }
 }
 
@@ -29,7 +28,7 @@ pub fn options(g: &mut Group) {
     }
     let compared = Compared::new(&all[1], &all[0], 2);
     #[rustfmt::skip]
-    same(g, &tool, &compared.listing(), &[
+    same(g, &tool, &compared.prints(compared.listing()), &[
         &["compare", "-m", "2", "--fish", "8,7", "a"], &["compare", "-m2", "--fish=8,7", "a"],
         &["compare", "a", "--minimum", "2", "--fish", "8,7"], &["compare", "--minimum=2", "a", "--fish=8,7"],
         &["compare", "--fish", "8,7", "a", "-m", "2"], &["compare", "-m", "2", "--fish", "8,7", "--", "a"],
@@ -37,62 +36,66 @@ pub fn options(g: &mut Group) {
         &["compare", "-m", "2", "--fish", "8,7", "./-"],
     ]);
     #[rustfmt::skip]
-    same(g, &tool, &compared.json(), &[
+    same(g, &tool, &compared.prints(compared.json()), &[
         &["compare", "-m", "2", "--fish", "8,7", "a", "--json"], &["compare", "--json", "-m2", "--fish=8,7", "--", "--json"],
         &["compare", "a", "--json", "--fish=8,7", "--minimum", "2"],
     ]);
     #[rustfmt::skip]
-    same(g, &tool, &compared.verdict(300), &[
+    same(g, &tool, &compared.prints(compared.verdict(300)), &[
         &["compare", "-m", "2", "--fish", "8,7", "--at-least", "300", "a"], &["compare", "--at-least=300", "-m2", "--fish=8,7", "a"],
         &["compare", "a", "--at-least", "0300", "--fish=8,7", "-m2", "-o", "-"],
     ]);
     #[rustfmt::skip]
-    same(g, &tool, &compared.verdict_json(0), &[
+    same(g, &tool, &compared.prints(compared.verdict_json(0)), &[
         &["compare", "-m2", "--fish=8,7", "a", "--json", "--at-least", "0"], &["compare", "--at-least=0", "--json", "-m2", "--fish=8,7", "--", "-a"],
     ]);
     let [first, second] = [[1, 0], [2, 3]].map(|[a, b]| Covers::new(&all[a], &all[b]));
     #[rustfmt::skip]
-    same(g, &tool, &first.table(), &[
+    same(g, &tool, &Covers::print(&[&first], first.table()), &[
         &["cover", "--fish", "8,7", "a"], &["cover", "a", "--fish=8,7"], &["cover", "--fish=8,7", "--", "-a"],
         &["cover", "--fish", "8,7", "--", "--json"], &["cover", "./-", "--fish", "8,7", "-o", "-"],
     ]);
     #[rustfmt::skip]
-    same(g, &tool, &(COVERS.to_string() + &first.rows(true) + &second.rows(true)), &[
+    same(g, &tool, &Covers::print(&[&first, &second], COVERS.to_string() + &first.rows(true) + &second.rows(true)), &[
         &["cover", "--all", "--fish", "8,7", "--fish", "9,10", "a"], &["cover", "--fish=8,7", "a", "--fish=9,10", "--all"],
         &["cover", "a", "--fish=8,7", "--all", "--fish", "9,10"],
     ]);
     #[rustfmt::skip]
-    same(g, &tool, &(second.json() + &first.json() + &second.json()), &[
+    same(g, &tool, &Covers::print(&[&second, &first], second.json() + &first.json() + &second.json()), &[
         &["cover", "--fish", "9,10", "--fish", "8,7", "--fish", "9,10", "--json", "a"],
         &["cover", "--json", "a", "--fish=9,10", "--fish=8,7", "--fish=9,10"],
     ]);
     let matrix = Matrix::new(&all, 3);
     #[rustfmt::skip]
-    same(g, &tool, &matrix.table(), &[
+    same(g, &tool, &matrix.prints(matrix.table()), &[
         &["matrix", "-m", "3", "a"], &["matrix", "-m3", "a"], &["matrix", "a", "--minimum", "3"],
         &["matrix", "--minimum=3", "a"], &["matrix", "-m3", "--threads", "2", "a"], &["matrix", "a", "-m3", "--threads=64"],
         &["matrix", "-k", "-m3", "a"], &["matrix", "--keep-going", "a", "-m3"], &["matrix", "-m3", "--", "-a"],
     ]);
     #[rustfmt::skip]
-    same(g, &tool, &matrix.whole_list(), &[
+    same(g, &tool, &matrix.prints(matrix.whole_list()), &[
         &["matrix", "--pairs", "-m", "3", "a"], &["matrix", "-m3", "a", "--pairs", "--part", "1/1"],
         &["matrix", "--part=1/1", "--pairs", "-m3", "a"],
     ]);
     #[rustfmt::skip]
-    same(g, &tool, &matrix.whole_ranking(40), &[
+    same(g, &tool, &matrix.prints(matrix.whole_ranking(40)), &[
         &["matrix", "--at-least", "40", "-m", "3", "a"], &["matrix", "-m3", "a", "--at-least=40"],
         &["matrix", "-m3", "--top", "6", "a", "--at-least=40"], &["matrix", "-m3", "--top=6", "--at-least", "040", "--", "-a"],
         &["matrix", "-m3", "--at-least", "40", "./-", "--threads=2", "-k"],
     ]);
     let sides = Matrix::sides([&all, &all], 3);
     #[rustfmt::skip]
-    same(g, &tool, &sides.table(), &[
+    same(g, &tool, &sides.prints(sides.table()), &[
         &["matrix", "-m3", "a", "--against", "a"], &["matrix", "--against=a", "-m3", "a"], &["matrix", "--against", "-a", "-m3", "--", "-a"],
         &["matrix", "-m3", "a", "--against=./-"], &["matrix", "--against", "--json", "a", "-m3"],
     ]);
     #[rustfmt::skip]
-    same(g, &tool, &sides.whole_ranking(0), &[
+    same(g, &tool, &sides.prints(sides.whole_ranking(0)), &[
         &["matrix", "-m3", "a", "--against", "a", "--at-least", "0"], &["matrix", "--at-least=0", "--against=a", "-m3", "--top=16", "a"],
+    ]);
+    #[rustfmt::skip]
+    same(g, &tool, &matrix.prints(matrix.table()), &[
+        &["matrix", "-m3", "--min-called", "0", "a"], &["matrix", "a", "--min-called=0", "-m3"], &["matrix", "-m3", "--min-called=000", "--", "-a"],
     ]);
     names(g, &tool, &all);
 }

@@ -1,11 +1,12 @@
 //! Output that cannot be written, or must not be.
 
 use super::expected::{Expected, Line};
-use super::fish::{fish, records, text};
+use super::fish::{records, text, Fish};
 use super::Tool;
 use crate::group::Group;
 use crate::process::lossy;
 use crate::reference::MAX_WORDS;
+use crate::samples::sequence;
 use std::fs::File;
 use std::process::Stdio;
 
@@ -29,7 +30,7 @@ const COMMANDS: [&[&str]; 13] = [
 /// A closed pipe, a full disk, a folder that is not there, a folder in place of the file.
 pub fn output(g: &mut Group) {
     let tool = Tool::new(g);
-    let all = [(); 2].map(|()| fish(&mut g.random, MAX_WORDS));
+    let all = [1, 2].map(|id| Fish::new(id, &sequence(&mut g.random, MAX_WORDS)));
     tool.put("fish", records(&all));
     tool.put("fish.txt", text(&all));
     tool.put("folder/file", "");

@@ -5,6 +5,7 @@ use super::expected::{Expected, Line};
 use super::faults::refusal;
 use super::fish::{records, text, Fish};
 use super::results::Compared;
+use super::typing::warnings;
 use super::Tool;
 use super::{picture, svg};
 use crate::group::Group;
@@ -57,7 +58,7 @@ pub fn plot(g: &mut Group) {
         let ran = tool.run(&args, &records(pair));
         let picture = ran.map(|ran| ran.stdout).unwrap_or_default();
         tool.put(&format!("{number}.svg"), &picture);
-        let same = Expected::prints(picture.clone());
+        let same = Expected::prints(picture.clone()).after(warnings(pair));
         let case = format_args!("pair {number}, again");
         g.equal(
             format_args!("pair {number}, a picture"),
@@ -66,7 +67,7 @@ pub fn plot(g: &mut Group) {
         );
         tool.expect(g, case, &args, &text(pair), &same);
         if number < 15 {
-            tool.expect_written(g, case, &args, &text(pair), &picture);
+            tool.expect_written(g, case, &args, &text(pair), &same);
         }
     }
     let parts = svg::read(g, &tool, pairs.len(), picture::SCRIPT);

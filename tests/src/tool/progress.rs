@@ -1,13 +1,14 @@
 //! The progress bar of `matrix`: at a terminal it is there and wiped in the end, elsewhere it is not.
 
 use super::expected::differing;
-use super::fish::{fish, records, text, Fish};
+use super::fish::{records, text, Fish};
 use super::matrix::related_fish;
 use super::results::{Cell, Compared, Matrix};
 use super::{Tool, PROGRAMS};
 use crate::group::Group;
 use crate::pairs::calls;
 use crate::process::lossy;
+use crate::samples::sequence;
 use std::process::{Command, Stdio};
 
 /// What a command writes to a pseudo-terminal, and its status.
@@ -81,7 +82,7 @@ pub fn progress(g: &mut Group) {
     let tool = Tool::new(g);
     let mut all = related_fish(&mut g.random, 40);
     for one in &mut all {
-        one.words.extend(fish(&mut g.random, 300).words);
+        one.words.extend(sequence(&mut g.random, 300));
     }
     let matrix = Matrix::new(&all, 1);
     let (table, list) = (matrix.table(), matrix.whole_list());
@@ -125,6 +126,7 @@ pub fn progress(g: &mut Group) {
         }
     }
     left_out(g, &tool, &table);
+    warned(g, &tool);
     midway(g, &tool);
     encode(g, &tool);
 }
@@ -199,6 +201,16 @@ fn left_out(g: &mut Group, tool: &Tool, table: &str) {
         Ok((status, right, rest == table.trim_end()))
     });
     g.equal(format_args!("left out"), seen, Ok((Some(1), true, true)));
+}
+
+/// A warning stands on a line of its own before the table.
+fn warned(g: &mut Group, tool: &Tool) {
+    tool.put("badly.txt", "1 ? ? 5\n2 5\n");
+    let ran = at_terminal(tool, "sigxume matrix -m 1 badly.txt");
+    let seen = ran.and_then(|(status, bytes)| Ok((status, shown(&bytes)?)));
+    let screen = "sigxume: warning: fish 1 has 1 of 3 words called: a fish typed so badly looks unrelated to \
+                  every other\nfish,1,2\n1,,500\n2,500,";
+    g.equal(format_args!("warned"), seen, Ok((Some(0), screen.into())));
 }
 
 /// `encode` prints no records at a terminal.

@@ -19,17 +19,18 @@ pub fn listed(
     tool: &Tool,
     case: Arguments,
     args: &[&str],
-    (heading, lines): &(String, Vec<String>),
+    matrix: &Matrix,
     threshold: usize,
     tops: impl IntoIterator<Item = usize>,
 ) {
+    let (heading, lines) = matrix.ranking(threshold);
     let at_least = threshold.to_string();
     let args = [&["matrix", "--at-least", &at_least], args].concat();
     let beginning = |top: usize| (Some(format!("--top={top}")), top.min(lines.len()));
     let whole = [(None, lines.len())];
     for (option, count) in whole.into_iter().chain(tops.into_iter().map(beginning)) {
         let option = option.as_deref();
-        let expected = Expected::prints(heading.clone() + &lines[..count].concat());
+        let expected = matrix.prints(heading.clone() + &lines[..count].concat());
         for threads in ["--threads=1", "--threads=3"] {
             let args = [&args[..], option.as_slice(), &[threads]].concat();
             tool.expect(g, case, &args, b"", &expected);
@@ -83,13 +84,12 @@ fn some(g: &mut Group, tool: &Tool, count: usize, minimum: u32) {
     tool.put("all", records(&all));
     let least = minimum.to_string();
     for threshold in thresholds(g, &matrix) {
-        let list = matrix.ranking(threshold);
-        let pairs = list.1.len();
+        let pairs = matrix.ranking(threshold).1.len();
         let mut tops = vec![1, 2, pairs / 2, pairs, pairs + 1, usize::MAX];
         tops.retain(|top| *top > 0);
         let case = format_args!("{count} fish");
         let args = ["-m", &least, "all"];
-        listed(g, tool, case, &args, &list, threshold, tops);
+        listed(g, tool, case, &args, &matrix, threshold, tops);
     }
 }
 
@@ -107,7 +107,7 @@ fn equal_scores(g: &mut Group, tool: &Tool) {
     let few = scores.len() <= 4 && list.1.len() == 36;
     g.equal(format_args!("36 pairs, few scores"), few, true);
     let case = format_args!("equal scores");
-    listed(g, tool, case, &["-m2", "all"], &list, 1, 1..=37);
+    listed(g, tool, case, &["-m2", "all"], &matrix, 1, 1..=37);
 }
 
 /// Very many fish of few words: the threads are done out of order.
@@ -116,10 +116,9 @@ fn many(g: &mut Group, tool: &Tool) {
     let matrix = Matrix::new(&all, 1);
     tool.put("many.txt", text(&all));
     for threshold in [0, 500, 900, 1_000] {
-        let list = matrix.ranking(threshold);
         let case = format_args!("300 fish");
         let args = ["-m1", "many.txt"];
-        listed(g, tool, case, &args, &list, threshold, [1, 100, 10_000]);
+        listed(g, tool, case, &args, &matrix, threshold, [1, 100, 10_000]);
     }
 }
 

@@ -1,6 +1,12 @@
-//! What the tool must print of comparisons: listings, JSON texts, tables.
+//! What the tool must print of comparisons: listings, JSON texts, tables, and what it says of badly typed fish.
 
+mod matrix;
+
+pub use matrix::{Cell, Matrix, PAIRS};
+
+use super::expected::Expected;
 use super::fish::Fish;
+use super::typing::{no_calls, said, warning, warnings};
 use crate::reference::{
     self, at_least, covered, score, tiling, workspace_words, Curve, Tile, COVER_WORDS,
 };
@@ -52,17 +58,30 @@ impl<'a> Compared<'a> {
         score(self.covered(), first, second)
     }
 
+    pub fn no_calls(&self) -> [usize; 2] {
+        [self.first, self.second].map(no_calls)
+    }
+
+    /// It prints this of the two, after what it says of either that is badly typed.
+    pub fn prints(&self, text: impl Into<Vec<u8>>) -> Expected {
+        Expected::prints(text).after(warnings([self.first, self.second]))
+    }
+
+    /// The pair program's listing with one line more before the last.
     pub fn listing(&self) -> String {
-        reference::listing(self.ids(), self.lengths(), self.minimum, &self.tiles)
+        let listing = reference::listing(self.ids(), self.lengths(), self.minimum, &self.tiles);
+        let [a, b] = self.no_calls();
+        with_no_calls(&listing, [a, b])
     }
 
     /// The JSON text, in one line.
     pub fn json(&self) -> String {
         let [a, b] = self.ids();
         let [n, m] = self.lengths();
+        let [p, q] = self.no_calls();
         let tiles: Vec<String> = self.tiles.iter().map(json_tile).collect();
         format!(
-            "{{\"fish\":[{a},{b}],\"minimum\":{},\"lengths\":[{n},{m}],\"tiles\":[{}],\
+            "{{\"fish\":[{a},{b}],\"minimum\":{},\"lengths\":[{n},{m}],\"no_calls\":[{p},{q}],\"tiles\":[{}],\
              \"covered\":{},\"score\":{}}}\n",
             self.minimum,
             tiles.join(","),
@@ -102,14 +121,22 @@ impl<'a> Compared<'a> {
         let told = self.told(threshold);
         let [a, b] = self.ids();
         let [n, m] = self.lengths();
+        let [p, q] = self.no_calls();
         format!(
-            "{{\"fish\":[{a},{b}],\"minimum\":{},\"lengths\":[{n},{m}],\"threshold\":{threshold},\
+            "{{\"fish\":[{a},{b}],\"minimum\":{},\"lengths\":[{n},{m}],\"no_calls\":[{p},{q}],\"threshold\":{threshold},\
              \"reached\":{},\"tiles\":{}}}\n",
             self.minimum,
             ["false", "true"][told.reached as usize],
             told.tiles
         )
     }
+}
+
+/// The tool's listing, of the pair program's: the no-calls stand before the score, which is the last line.
+pub fn with_no_calls(listing: &str, [first, second]: [usize; 2]) -> String {
+    let at = listing.rfind("SCORE ").expect("a listing has a score");
+    let (start, score) = listing.split_at(at);
+    format!("{start}NO-CALLS {first} {second}\n{score}")
 }
 
 fn json_tile(tile: &Tile) -> String {
@@ -128,6 +155,8 @@ pub struct Covers {
     pub lengths: [usize; 2],
     pub covered: [usize; COVER_WORDS],
     pub scores: [usize; COVER_WORDS],
+    /// What is said of either fish that is badly typed.
+    warnings: Vec<String>,
 }
 
 /// The table of covers begins with this line.
@@ -144,6 +173,7 @@ impl Covers {
             lengths,
             covered,
             scores: covered.map(|covered| score(covered, lengths[0], lengths[1])),
+            warnings: [first, second].into_iter().filter_map(warning).collect(),
         }
     }
 
@@ -176,172 +206,15 @@ impl Covers {
         )
     }
 
+    /// It prints this of some pairs, after what it says of their fish that are badly typed.
+    pub fn print(pairs: &[&Self], text: impl Into<Vec<u8>>) -> Expected {
+        let warnings = pairs.iter().flat_map(|pair| pair.warnings.clone());
+        Expected::prints(text).after(said(warnings))
+    }
+
     /// The greatest minimum at which anything is covered; 0 where there is none.
     pub fn last(&self) -> usize {
         let last = self.covered.iter().rposition(|covered| *covered > 0);
         last.map_or(0, |at| at + 1)
-    }
-}
-
-/// One pair of a matrix: tiles, covered, score.
-#[derive(Clone, Copy, Debug, PartialEq, Eq)]
-pub struct Cell {
-    pub tiles: usize,
-    pub covered: usize,
-    pub score: usize,
-}
-
-impl Cell {
-    pub fn of(compared: &Compared) -> Self {
-        Self {
-            tiles: compared.tiles.len(),
-            covered: compared.covered(),
-            score: compared.score(),
-        }
-    }
-}
-
-/// The numbers of fish and the cells of their pairs, by rows: of every two fish of one side, a fish having none with
-/// itself; or of each fish of one side with each of the other.
-pub struct Matrix {
-    pub ids: Vec<u16>,
-    /// The numbers of the other side, where there is one.
-    pub against: Option<Vec<u16>>,
-    pub rows: Vec<Vec<Option<Cell>>>,
-}
-
-impl Matrix {
-    /// Each cell is a comparison of its own, the row's fish being the first.
-    pub fn new(fish: &[Fish], minimum: u32) -> Self {
-        Self::of(fish, |first, second| {
-            Cell::of(&Compared::new(first, second, minimum))
-        })
-    }
-
-    /// From the cell of any two.
-    pub fn of(fish: &[Fish], cell: impl Fn(&Fish, &Fish) -> Cell) -> Self {
-        let row = |(at, first): (usize, &Fish)| {
-            let others = fish.iter().enumerate();
-            let cells = others.map(|(other, second)| (other != at).then(|| cell(first, second)));
-            cells.collect()
-        };
-        Self {
-            ids: fish.iter().map(|fish| fish.id).collect(),
-            against: None,
-            rows: fish.iter().enumerate().map(row).collect(),
-        }
-    }
-
-    /// Of two sides: the rows are the fish of the first, the columns those of the second.
-    pub fn sides([fish, others]: [&[Fish]; 2], minimum: u32) -> Self {
-        let row = |first| {
-            let cell = |second| Some(Cell::of(&Compared::new(first, second, minimum)));
-            others.iter().map(cell).collect()
-        };
-        Self {
-            ids: fish.iter().map(|fish| fish.id).collect(),
-            against: Some(others.iter().map(|fish| fish.id).collect()),
-            rows: fish.iter().map(row).collect(),
-        }
-    }
-
-    /// The numbers of the fish of the columns.
-    fn columns(&self) -> &[u16] {
-        self.against.as_ref().unwrap_or(&self.ids)
-    }
-
-    /// Each pair once, by rows: (1, 2), (1, 3), .., (2, 3), .. of one side, and (1, 1), (1, 2), .., (2, 1), .. of two;
-    /// rows and columns are counted from 1.
-    pub fn pairs(&self) -> impl Iterator<Item = ([usize; 2], Cell)> + '_ {
-        let rows = (1..).zip(&self.rows);
-        rows.flat_map(|(row, cells)| {
-            let passed = if self.against.is_some() { 0 } else { row };
-            let later = (1..).zip(cells).skip(passed);
-            later.map(move |(column, cell)| ([row, column], cell.expect("two fish")))
-        })
-    }
-
-    /// How a line about a pair begins.
-    fn named(&self, [row, column]: [usize; 2]) -> String {
-        let (first, second) = (self.ids[row - 1], self.columns()[column - 1]);
-        format!("{row},{column},{first},{second}")
-    }
-
-    /// The table of scores.
-    pub fn table(&self) -> String {
-        let mut table = String::from("fish");
-        for id in self.columns() {
-            table += &format!(",{id}");
-        }
-        table += "\n";
-        for (id, cells) in self.ids.iter().zip(&self.rows) {
-            table += &id.to_string();
-            for cell in cells {
-                table += &cell.map_or(",".into(), |cell| format!(",{}", cell.score));
-            }
-            table += "\n";
-        }
-        table
-    }
-
-    /// The list of pairs: its heading, and its other lines.
-    pub fn list(&self) -> (String, Vec<String>) {
-        let lines = self.pairs().map(|(pair, cell)| {
-            let pair = self.named(pair);
-            format!("{pair},{},{},{}\n", cell.tiles, cell.covered, cell.score)
-        });
-        (
-            "row,column,first_fish,second_fish,tiles,covered,score\n".into(),
-            lines.collect(),
-        )
-    }
-
-    /// The list of pairs as a whole.
-    pub fn whole_list(&self) -> String {
-        let (heading, lines) = self.list();
-        heading + &lines.concat()
-    }
-
-    /// Part `k` of `n` of the list.
-    pub fn part(&self, k: usize, n: usize) -> String {
-        let (heading, lines) = self.list();
-        let bound = |k: usize| (k as u128 * lines.len() as u128 / n as u128) as usize;
-        let part = lines[bound(k - 1)..bound(k)].concat();
-        match k {
-            1 => heading + &part,
-            _ => part,
-        }
-    }
-
-    /// The list of the pairs that score at least so much, the highest score first and equal scores in the order of the
-    /// pairs: its heading, and its other lines.
-    pub fn ranking(&self, threshold: usize) -> (String, Vec<String>) {
-        let mut lines = Vec::new();
-        for score in (threshold..=1_000).rev() {
-            let equal = self.pairs().filter(|(_, cell)| cell.score == score);
-            lines.extend(equal.map(|(pair, cell)| {
-                let pair = self.named(pair);
-                format!("{pair},{},{score}\n", cell.covered)
-            }));
-        }
-        (
-            "row,column,first_fish,second_fish,covered,score\n".into(),
-            lines,
-        )
-    }
-
-    /// That list as a whole.
-    pub fn whole_ranking(&self, threshold: usize) -> String {
-        let (heading, lines) = self.ranking(threshold);
-        heading + &lines.concat()
-    }
-
-    /// The three layouts, each with the options that ask for it.
-    pub fn layouts(&self) -> [(&'static [&'static str], String); 3] {
-        [
-            (&[], self.table()),
-            (&["--pairs"], self.whole_list()),
-            (&["--at-least", "300"], self.whole_ranking(300)),
-        ]
     }
 }

@@ -56,7 +56,7 @@ fn several(g: &mut Group, tool: &Tool) {
             let args = [name, "a", "b c", "--", "-x"];
             tool.expect(g, case, &args, b"not read", &printed);
             tool.expect(g, case, &[name, "a", "-", "./-x"], &middle, &printed);
-            tool.expect_written(g, case, &[name, "a", "-", "./-x"], &middle, &result);
+            tool.expect_written(g, case, &[name, "a", "-", "./-x"], &middle, &printed);
             let twice = other(&[&all[..], &parts[0]].concat());
             let args = [name, "a", "b c", "./-x", "a"];
             tool.expect(g, case, &args, b"", &Expected::prints(twice));
@@ -94,8 +94,20 @@ fn outputs(g: &mut Group, tool: &Tool) {
 pub fn encode_and_decode(g: &mut Group) {
     let tool = Tool::new(g);
     both_ways(g, &tool, format_args!("no fish"), &[]);
-    tool.expect_written(g, format_args!("no fish"), &["encode"], b"", b"");
-    tool.expect_written(g, format_args!("no fish"), &["decode"], b"", b"");
+    tool.expect_written(
+        g,
+        format_args!("no fish"),
+        &["encode"],
+        b"",
+        &Expected::prints(""),
+    );
+    tool.expect_written(
+        g,
+        format_args!("no fish"),
+        &["decode"],
+        b"",
+        &Expected::prints(""),
+    );
     let worked = WORKED.map(|(id, name, ..)| Fish::new(id, &crate::known::letters(name)));
     both_ways(g, &tool, format_args!("worked example"), &worked);
     let example = "12 3 1 1 2 1 1 4\n13 2 1 1 4 3 1 1 1 1 2 1 1\n";

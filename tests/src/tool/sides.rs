@@ -5,7 +5,7 @@ use super::faults::refusal;
 use super::fish::{records, text, Fish};
 use super::matrix::{parts, related_fish};
 use super::ranking::{listed, thresholds};
-use super::results::Matrix;
+use super::results::{Matrix, PAIRS};
 use super::Tool;
 use crate::group::Group;
 use crate::known::letters;
@@ -48,7 +48,7 @@ fn forms(g: &mut Group, tool: &Tool, sides: [&[Fish]; 2], minimum: u32) {
     for (args, input) in sources(tool, sides) {
         for (option, made) in &layouts {
             let args = [&["matrix", "-m", &least], *option, args].concat();
-            tool.expect(g, case, &args, &input, &Expected::prints(&made[..]));
+            tool.expect(g, case, &args, &input, made);
         }
     }
     let files = ["-m", &least, "fish", "--against", "others"];
@@ -56,16 +56,16 @@ fn forms(g: &mut Group, tool: &Tool, sides: [&[Fish]; 2], minimum: u32) {
         let args = [&["matrix"], &files[..], option].concat();
         for threads in ["--threads=1", "--threads=3"] {
             let args = [&args[..], &[threads]].concat();
-            tool.expect(g, case, &args, b"", &Expected::prints(&made[..]));
+            tool.expect(g, case, &args, b"", made);
         }
-        tool.expect_written(g, case, &args, b"", made.as_bytes());
+        tool.expect_written(g, case, &args, b"", made);
         let args = [&args[..], &["-k"]].concat();
-        tool.expect(g, case, &args, b"", &Expected::prints(&made[..]));
+        tool.expect(g, case, &args, b"", made);
     }
     for threshold in thresholds(g, &matrix) {
-        let list = matrix.ranking(threshold);
-        let tops = [1, 1 + list.1.len() / 2, 1 + list.1.len()];
-        listed(g, tool, case, &files, &list, threshold, tops);
+        let pairs = matrix.ranking(threshold).1.len();
+        let tops = [1, 1 + pairs / 2, 1 + pairs];
+        listed(g, tool, case, &files, &matrix, threshold, tops);
     }
     parts(g, tool, case, &files, &matrix);
 }
@@ -75,7 +75,6 @@ fn example(g: &mut Group, tool: &Tool) {
     let fish = |id, words| Fish::new(id, &letters(words));
     tool.put("dams", text(&[fish(12, "caabaad"), fish(13, "ab")]));
     tool.put("sires", text(&[fish(13, "baadcaaaabaa"), fish(20, "")]));
-    let pairs = "row,column,first_fish,second_fish,tiles,covered,score\n";
     let reached = "row,column,first_fish,second_fish,covered,score\n";
     let both = ["dams", "--against", "sires"];
     let turned = ["sires", "--against", "dams"];
@@ -92,7 +91,7 @@ fn example(g: &mut Group, tool: &Tool) {
             &both,
             &["--pairs"],
             format!(
-                "{pairs}1,1,12,13,3,7,736\n1,2,12,20,0,0,0\n2,1,13,13,1,2,285\n2,2,13,20,0,0,0\n"
+                "{PAIRS}1,1,12,13,3,7,736,0,0\n1,2,12,20,0,0,0,0,0\n2,1,13,13,1,2,285,0,0\n2,2,13,20,0,0,0,0,0\n"
             ),
         ),
         (
@@ -158,6 +157,6 @@ pub fn sides(g: &mut Group) {
     for other in ["all", "./all"] {
         let args = ["matrix", "-m", "2", "all", "--against", other];
         let case = format_args!("the same fish on both sides");
-        tool.expect(g, case, &args, b"", &Expected::prints(matrix.table()));
+        tool.expect(g, case, &args, b"", &matrix.prints(matrix.table()));
     }
 }

@@ -15,17 +15,18 @@ use std::fmt::Arguments;
 /// Prints the values of each JSON text in a form of its own.
 const SCRIPT: &str = r#"
 for names, d in texts():
-    assert all(type(n) is int for n in d['fish'] + d['lengths'] + [d['minimum'], d['threshold'], d['tiles']])
+    assert all(type(n) is int for n in d['fish'] + d['lengths'] + d['no_calls'] + [d['minimum'], d['threshold'], d['tiles']])
     assert type(d['reached']) is bool
-    print(names, *d['fish'], d['minimum'], *d['lengths'], d['threshold'], int(d['reached']), d['tiles'], sep='|')
+    print(names, *d['fish'], d['minimum'], *d['lengths'], *d['no_calls'], d['threshold'], int(d['reached']), d['tiles'], sep='|')
 "#;
 
 /// What the script must print for a pair.
 fn values(compared: &Compared, threshold: u32) -> String {
     let ([a, b], [n, m]) = (compared.ids(), compared.lengths());
+    let [p, q] = compared.no_calls();
     let told = compared.told(threshold);
     format!(
-        "fish minimum lengths threshold reached tiles|{a}|{b}|{}|{n}|{m}|{threshold}|{}|{}\n",
+        "fish minimum lengths no_calls threshold reached tiles|{a}|{b}|{}|{n}|{m}|{p}|{q}|{threshold}|{}|{}\n",
         compared.minimum, told.reached, told.tiles
     )
 }
@@ -61,14 +62,14 @@ fn one(
     ] {
         let args = ["compare", "-m", &minimum, "--at-least", &at_least];
         let args = [&args[..], option].concat();
-        let expected = Expected::prints(&printed[..]);
+        let expected = compared.prints(&printed[..]);
         for files in [&["both"][..], &["both.txt"], &["first", "second.txt"]] {
             tool.expect(g, case, &[&args[..], files].concat(), b"", &expected);
         }
         let args = [&args[..], &["-"]].concat();
         tool.expect(g, case, &args, &text(&pair), &expected);
         if write {
-            tool.expect_written(g, case, &args, &records(&pair), printed.as_bytes());
+            tool.expect_written(g, case, &args, &records(&pair), &expected);
         }
     }
 }
@@ -100,7 +101,7 @@ fn example(g: &mut Group, tool: &Tool) {
         tool.expect(g, case, &args, lines, &Expected::prints(printed));
         let reached = word == "YES";
         let printed = format!(
-            "{{\"fish\":[12,13],\"minimum\":{minimum},\"lengths\":[7,12],\"threshold\":{threshold},\
+            "{{\"fish\":[12,13],\"minimum\":{minimum},\"lengths\":[7,12],\"no_calls\":[0,0],\"threshold\":{threshold},\
              \"reached\":{reached},\"tiles\":{tiles}}}\n"
         );
         let args = [&args[..], &["--json"]].concat();
