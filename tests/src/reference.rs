@@ -70,7 +70,7 @@ fn code(word: u32) -> Option<u32> {
 }
 
 /// Whether a word is a no-call: "bits 29 to 0 zero".
-fn is_no_call(word: u32) -> bool {
+pub fn is_no_call(word: u32) -> bool {
     kind(word) == 2 && low(word) == 0
 }
 

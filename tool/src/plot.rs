@@ -96,7 +96,8 @@ pub fn plot(fish: [&Fish; 2], minimum: u32, tiling: Tiling) -> String {
 }
 
 /// The tiles are scaled but their lines' width is not to be. Where the viewer cannot leave it as it is, a width is
-/// given that comes out right, or nearly so where the axes have two scales.
+/// given that comes out right, or nearly so where the axes have two scales. A no-call is outlined where its outline is
+/// not scaled: of two thousand words one alone would be too narrow to be seen.
 fn widths([across, down]: &[Axis; 2]) -> String {
     let scale = (across.scale() * down.scale()).sqrt();
     let [kept, moved] = WIDTHS;
@@ -110,6 +111,7 @@ fn widths([across, down]: &[Axis; 2]) -> String {
 .tile {{ vector-effect: non-scaling-stroke; }}
 .tile.kept {{ stroke-width: {kept}; }}
 .tile.moved {{ stroke-width: {moved}; }}
+.no-call {{ stroke: #000000; stroke-width: 1; vector-effect: non-scaling-stroke; }}
 }}
 "
     )

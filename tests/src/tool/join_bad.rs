@@ -7,12 +7,10 @@ use super::typings::Typings;
 use super::Tool;
 use crate::group::Group;
 use crate::process::lossy;
+use crate::reference::COUNT;
 use crate::samples::call;
 use std::fs::File;
 use std::process::Stdio;
-
-/// The number of the refusal of different counts.
-const COUNT: u32 = 14;
 
 /// It prints nothing but these lines on standard error.
 fn says(lines: &[String]) -> Expected {

@@ -5,7 +5,8 @@ use super::fish::Fish;
 use super::typing::warning;
 use crate::pairs::shuffled;
 use crate::random::Random;
-use crate::reference::{matches, RETIRED};
+use crate::reference::merging::merged_words;
+use crate::reference::{is_no_call, matches, RETIRED};
 use crate::samples::{call, NO_CALL};
 use std::collections::HashMap;
 
@@ -19,19 +20,13 @@ pub struct Joined {
     pub said: Vec<Line>,
 }
 
-/// "Where both match under U4 take the first's word; where one is a no-call take the other's; otherwise write a
-/// no-call": the word, and its column of the report.
-fn word(a: u32, b: u32) -> (u32, usize) {
-    if matches(a, b) {
-        (a, 0)
-    } else if a == NO_CALL && b == NO_CALL {
-        (NO_CALL, 3)
-    } else if a == NO_CALL {
-        (b, 1)
-    } else if b == NO_CALL {
-        (a, 1)
-    } else {
-        (NO_CALL, 2)
+/// The column of the report in which two words are counted: agreed, filled in, in conflict, called in neither.
+fn column(a: u32, b: u32) -> usize {
+    match [a, b].map(is_no_call) {
+        [true, true] => 3,
+        [false, false] if matches(a, b) => 0,
+        [false, false] => 2,
+        _ => 1,
     }
 }
 
@@ -60,8 +55,9 @@ pub fn joined([first, second]: [(&str, &[Fish]); 2], keep: bool) -> Joined {
             once(fish, first.0, &mut due.fish);
             continue;
         };
+        let words = merged_words(&fish.words, &other.words);
         let pairs = fish.words.iter().zip(&other.words);
-        let (words, columns): (Vec<u32>, Vec<usize>) = pairs.map(|(&a, &b)| word(a, b)).unzip();
+        let columns = Vec::from_iter(pairs.map(|(&a, &b)| column(a, b)));
         due.report += &format!("{},{}", fish.id, fish.words.len());
         for column in 0..4 {
             let count = columns.iter().filter(|&&found| found == column).count();
