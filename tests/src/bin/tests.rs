@@ -168,7 +168,7 @@ const GROUPS: &[Row] = &[
     ("program: counts", 57, program::counts),
     ("program: what follows", 58, program::what_follows),
     ("program: in pieces", 59, program::in_pieces),
-    ("program: faults", 83, program::faults),
+    ("program: faults", 181, program::faults),
     ("tool: retired codes", 137, codes::codes),
     ("tool: encode and decode", 61, round_trips::encode_and_decode),
     ("tool: bad lines", 62, bad_lines::bad_lines),
