@@ -5,7 +5,7 @@ use Prim.Native.Nat.{ℕ, zero, suc, _<_}
 use native.Mathlib.Nat.{not-suc-le-zero, le-of-suc-le-suc}
 use native.Mathlib.Omega.{arith}
 use mathlib.Core.Path.{_≡_, refl, sym, _∙_, ap}
-use mathlib.Core.Logic.{inl, inr}
+use mathlib.Core.Logic.{inl, inr, ⊎-elim}
 use mathlib.Core.Bool.{Bool, true, false}
 use mathlib.Core.List.{List, [], _∷_, map}
 use lib.ListN.{length, getD}
@@ -14,7 +14,7 @@ use Rattle.symbol.specs.Sequence.{every, allSound}
 use Rattle.symbol.proofs.Word.{and-both, and-left, and-right, no-call-is, calls-equal, calls-call}
 use Rattle.symbol.proofs.Retired.{match-equal, match-self, match-swap, no-match-left}
 use Rattle.merge.specs.Word.{mergedWord, merged}
-use Rattle.merge.specs.Laws.{NotInvented, EitherFirst, OrderMatters}
+use Rattle.merge.specs.Laws.{NotInvented, EitherFirst, OrderMatters, Undisputed, AnyOrder}
 
 -- ---- the cases
 module _ (a b : ℕ) where
@@ -129,6 +129,31 @@ order-matters a b p q e =
       again-after = rw conflict (word-second noCall b (no-match-left noCall b no-call-none) no-call-one);
       again-before = rw (word-agreed b b (match-self b q)) conflict;
     }
+
+-- A call stays where nothing speaks against it, and the no-call gives way to whatever there is.
+stays : (a x : ℕ) → isNoCall a ≡ false → Undisputed a x → mergedWord a x ≡ a
+stays a x n u = ⊎-elim (λ e. absurd (let z : true ≡ false = sym e ∙ n in let k : _≡_ {A = ℕ} 0 1 = cc in omega arith)) (⊎-elim (λ e. none e (matches a x) refl) (word-agreed a x)) u
+  where
+    none : isNoCall x ≡ true → (t : Bool) → matches a x ≡ t → mergedWord a x ≡ a
+    none e true f = word-agreed a x f
+    none e false f = word-first a x f n e
+
+gives-way : (a x : ℕ) → isNoCall a ≡ true → mergedWord a x ≡ x
+gives-way a x e = rw (no-call-is a e) (word-second noCall x (no-match-left noCall x no-call-none) no-call-one)
+
+pub any-order : (a b c : ℕ) → Undisputed a b → Undisputed a c → AnyOrder a b c
+any-order a b c p q = go (isNoCall a) refl
+  where
+    merged-undisputed : Undisputed a (mergedWord b c)
+    merged-undisputed =
+        ⊎-elim
+        (λ e. rw e p)
+        (⊎-elim (λ e. rw e q) (λ e. rw e (inr (inl no-call-one))))
+        (not-invented b c .from)
+
+    go : (t : Bool) → isNoCall a ≡ t → AnyOrder a b c
+    go true e = rw (gives-way a b e, gives-way a (mergedWord b c) e) refl
+    go false e = rw (stays a b e p, stays a c e q, stays a (mergedWord b c) e merged-undisputed) refl
 
 -- ---- word by word
 word-sound : (a b : ℕ) → isSound a ≡ true → isSound b ≡ true → isSound (mergedWord a b) ≡ true

@@ -41,6 +41,14 @@ pub record OrderMatters (a b : ℕ) : Type 0 where
   pub again-after : mergedWord (mergedWord a b) b ≡ b
   pub again-before : mergedWord a (mergedWord b b) ≡ noCall
 
+-- Two typings do not speak against one another at a position: one has no call there, or they match.
+abbrev pub Undisputed : ℕ → ℕ → Type 0
+Undisputed a b = (isNoCall a ≡ true) ⊎ ((isNoCall b ≡ true) ⊎ (matches a b ≡ true))
+
+-- Where neither of two others speaks against a typing, it does not matter which two of the three are merged first.
+abbrev pub AnyOrder : ℕ → ℕ → ℕ → Type 0
+AnyOrder a b c = mergedWord (mergedWord a b) c ≡ mergedWord a (mergedWord b c)
+
 -- ---- two records
 -- "The result is a strip that reads without refusal", with the id and the count of both and the words merged, wherever there is room for them.
 pub record Reads (first second buffer out : List ℕ) : Type 0 where
