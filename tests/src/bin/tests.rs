@@ -133,6 +133,7 @@ const GROUPS: &[Row] = &[
     ("merge: random typings", 167, merge::random),
     ("merge: laws", 168, merge::laws::laws),
     ("merge: three typings", 169, merge::laws::three),
+    ("merge: spelling chooses", 182, merge::laws::spelling),
     ("merge: headers", 170, merge::limits::headers),
     ("merge: trailers", 171, merge::limits::trailers),
     ("merge: unsound words", 172, merge::limits::unsound),

@@ -5,9 +5,10 @@ use super::typings::{retyped, typings};
 use crate::group::Group;
 use crate::pairs::Sides;
 use crate::records::LENGTHS;
-use crate::reference::{matches, read, record, replaced_words};
-use crate::samples::{any_length, NO_CALL, ORDERS};
+use crate::reference::{matches, read, record, replaced_words, score, tiling};
+use crate::samples::{any_length, call, NO_CALL, ORDERS};
 use sigxume::raw::{self, ReadAnswer};
+use sigxume::Comparer;
 
 /// The sequence of a whole record.
 fn inside(record: &[u32]) -> &[u32] {
@@ -180,4 +181,23 @@ pub fn three(g: &mut Group) {
     }
     let case = format_args!("{by_order} words that depend on the order");
     g.equal(case, by_order > 5_000, true);
+}
+
+/// Either way round the words match the same words, but of two sequences of equal length their spelling may choose the
+/// pattern: then the score with a third sequence is another.
+pub fn spelling(g: &mut Group) {
+    let words = |codes: [u16; 5]| codes.map(call);
+    let typings = [[12, 65_000, 11, 12, 12], [12, 11, 11, 12, 12]].map(words);
+    let third = words([12, 12, 11, 12, 11]);
+    for (at, due) in [(0, 800), (1, 400)] {
+        let whole = joined(7, &typings[at], &typings[1 - at]);
+        let tiles = tiling(&whole, &third, 2);
+        let covered = tiles.iter().map(|tile| tile.length).sum();
+        let literal = score(covered, whole.len(), third.len());
+        let mut comparer = Comparer::new();
+        let compared = comparer.compare(&whole, &third, 2);
+        let scored = compared.map(|tiling| tiling.score() as usize);
+        let case = format_args!("typing {at} first");
+        g.equal(case, (scored, literal), (Ok(due), due));
+    }
 }
