@@ -66,7 +66,7 @@ Badly typed fish
 Exit status
   0  all is well
   1  input was refused or could not be read, or output could not be written;
-     standard error says why, and nothing is written, but by --keep-going
+     standard error says why, and nothing is written, but by 'matrix -k'
   2  the command line is wrong
 "
     };
