@@ -9,10 +9,10 @@ use mathlib.Core.Logic.{inl, inr, ⊎-elim}
 use mathlib.Core.Bool.{Bool, true, false}
 use mathlib.Core.List.{List, [], _∷_, map}
 use lib.ListN.{length, getD}
-use Rattle.symbol.specs.Word.{kind, low, isCall, isNoCall, noCall, isSound, replaced, equalCalls, matches}
+use Rattle.symbol.specs.Word.{kind, low, isCall, isNoCall, noCall, isSound, isRetired, replaced, equalCalls, matches}
 use Rattle.symbol.specs.Sequence.{every, allSound}
 use Rattle.symbol.proofs.Word.{and-both, and-left, and-right, no-call-is, calls-equal, calls-call}
-use Rattle.symbol.proofs.Retired.{match-equal, match-self, match-swap, no-match-left}
+use Rattle.symbol.proofs.Retired.{replaced-none, call-replaced, match-equal, match-self, match-swap, no-match-left}
 use Rattle.merge.specs.Word.{mergedWord, merged}
 use Rattle.merge.specs.Laws.{NotInvented, EitherFirst, OrderMatters, Undisputed, AnyOrder}
 
@@ -141,8 +141,8 @@ stays a x n u = ⊎-elim (λ e. absurd (let z : true ≡ false = sym e ∙ n in 
 gives-way : (a x : ℕ) → isNoCall a ≡ true → mergedWord a x ≡ x
 gives-way a x e = rw (no-call-is a e) (word-second noCall x (no-match-left noCall x no-call-none) no-call-one)
 
-pub any-order : (a b c : ℕ) → Undisputed a b → Undisputed a c → AnyOrder a b c
-any-order a b c p q = go (isNoCall a) refl
+in-groups : (a b c : ℕ) → Undisputed a b → Undisputed a c → mergedWord (mergedWord a b) c ≡ mergedWord a (mergedWord b c)
+in-groups a b c p q = go (isNoCall a) refl
   where
     merged-undisputed : Undisputed a (mergedWord b c)
     merged-undisputed =
@@ -151,9 +151,49 @@ any-order a b c p q = go (isNoCall a) refl
         (⊎-elim (λ e. rw e q) (λ e. rw e (inr (inl no-call-one))))
         (not-invented b c .from)
 
-    go : (t : Bool) → isNoCall a ≡ t → AnyOrder a b c
+    go : (t : Bool) → isNoCall a ≡ t → mergedWord (mergedWord a b) c ≡ mergedWord a (mergedWord b c)
     go true e = rw (gives-way a b e, gives-way a (mergedWord b c) e) refl
     go false e = rw (stays a b e p, stays a c e q, stays a (mergedWord b c) e merged-undisputed) refl
+
+-- Words that are the same once replaced merge to words that are.
+not-retired : (w : ℕ) → isCall w ≡ false → isRetired w ≡ false
+unfolding isRetired
+not-retired w e = rw e refl
+
+no-call-replaced : (w : ℕ) → isNoCall (replaced w) ≡ isNoCall w
+no-call-replaced w = go (isCall w) refl
+  where
+    go : (t : Bool) → isCall w ≡ t → isNoCall (replaced w) ≡ isNoCall w
+    go true e = call-one (replaced w) (call-replaced w ∙ e) ∙ sym (call-one w e)
+    go false e = ap isNoCall (replaced-none w (not-retired w e))
+
+match-like : (x y c : ℕ) → replaced x ≡ replaced y → matches y c ≡ matches x c
+unfolding matches
+match-like x y c e = ap (λ w. equalCalls w (replaced c)) (sym e)
+
+like-first : (x y c : ℕ) → replaced x ≡ replaced y → replaced (mergedWord x c) ≡ replaced (mergedWord y c)
+like-first x y c e = go (matches x c) (isNoCall x) (isNoCall c) refl refl refl
+  where
+    none : isNoCall y ≡ isNoCall x
+    none = sym (no-call-replaced y) ∙ (ap isNoCall (sym e) ∙ no-call-replaced x)
+
+    go : (u v z : Bool) → matches x c ≡ u → isNoCall x ≡ v → isNoCall c ≡ z → replaced (mergedWord x c) ≡ replaced (mergedWord y c)
+    go true v z f g h = rw (word-agreed x c f, word-agreed y c (match-like x y c e ∙ f)) e
+    go false true z f g h = rw (word-second x c f g, word-second y c (match-like x y c e ∙ f) (none ∙ g)) refl
+    go false false true f g h = rw (word-first x c f g h, word-first y c (match-like x y c e ∙ f) (none ∙ g) h) e
+    go false false false f g h = rw (word-conflict x c f g h, word-conflict y c (match-like x y c e ∙ f) (none ∙ g) h) refl
+
+like-second : (a x y : ℕ) → replaced x ≡ replaced y → replaced (mergedWord a x) ≡ replaced (mergedWord a y)
+like-second a x y e = either-alike a x ∙ (like-first x y a e ∙ either-alike y a)
+
+pub any-order : (a b c : ℕ) → Undisputed a b → Undisputed a c → AnyOrder a b c
+any-order a b c p q =
+    let groups = in-groups a b c p q in
+    record {
+      grouped = groups;
+      second-last = ap replaced (in-groups a c b q p) ∙ (like-second a (mergedWord c b) (mergedWord b c) (either-alike c b) ∙ ap replaced (sym groups));
+      first-last = either-alike (mergedWord b c) a ∙ ap replaced (sym groups);
+    }
 
 -- ---- word by word
 word-sound : (a b : ℕ) → isSound a ≡ true → isSound b ≡ true → isSound (mergedWord a b) ≡ true

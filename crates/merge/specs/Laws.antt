@@ -45,9 +45,12 @@ pub record OrderMatters (a b : ℕ) : Type 0 where
 abbrev pub Undisputed : ℕ → ℕ → Type 0
 Undisputed a b = (isNoCall a ≡ true) ⊎ ((isNoCall b ≡ true) ⊎ (matches a b ≡ true))
 
--- Where neither of two others speaks against a typing, it does not matter which two of the three are merged first.
-abbrev pub AnyOrder : ℕ → ℕ → ℕ → Type 0
-AnyOrder a b c = mergedWord (mergedWord a b) c ≡ mergedWord a (mergedWord b c)
+-- In any order: however three typings are grouped the word is the same, and whichever of them comes last it is the same once retired codes are
+-- replaced. (Which of two comes first is EitherFirst.)
+pub record AnyOrder (a b c : ℕ) : Type 0 where
+  pub grouped : mergedWord (mergedWord a b) c ≡ mergedWord a (mergedWord b c)
+  pub second-last : replaced (mergedWord (mergedWord a c) b) ≡ replaced (mergedWord (mergedWord a b) c)
+  pub first-last : replaced (mergedWord (mergedWord b c) a) ≡ replaced (mergedWord (mergedWord a b) c)
 
 -- ---- two records
 -- "The result is a strip that reads without refusal", with the id and the count of both and the words merged, wherever there is room for them.

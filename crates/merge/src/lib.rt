@@ -4,10 +4,9 @@ ghost use mathlib.Core.Path.{_≡_};
 ghost use Prim.Native.Nat.{_+_, _≤_};
 ghost use lib.ListN.{length};
 ghost use Rattle.buffer.specs.Buffer.{onto};
-ghost use Rattle.record.specs.Format.{idOf, encode};
-ghost use Rattle.record.specs.Reading.{head, count, sequence, fault};
+ghost use Rattle.record.specs.Reading.{fault};
 ghost use Rattle.merge.specs.Word.{mergedWord, merged};
-ghost use Rattle.merge.specs.Merging.{pairRefusal, mergeRefusal, mergeAnswer, mergeBuffer};
+ghost use Rattle.merge.specs.Merging.{pairRefusal, mergeRefusal, mergedRecord, mergeAnswer, mergeBuffer};
 
 // What two typings say of one position: the first's word where they match, the other's where one is the no-call, else the no-call.
 // Most words are equal calls as they stand, so that is asked first, which spares a look at the table of retired codes.
@@ -76,10 +75,10 @@ fn merge_refusal(first: &[u32], second: &[u32], room: usize) -> u32
     pair_refusal(first, second, room)
 }
 
-// Stores the record of two that can be merged: a header is the first's, each word is merged, and the trailer is its own.
+// Stores the record of two that can be merged: the header is the first's, each word is merged, and the trailer is its own.
 fn store(first: &[u32], second: &[u32], buffer: &mut [u32])
     requires { ⌜ mergeRefusal (now first) (now second) (length (now buffer)) ≡ 0 ⌝ }
-    ensures { λ r. ⌜ now (buffer .exit) ≡ onto (encode (idOf (head (now (first .entry)))) (merged (sequence (now (first .entry))) (sequence (now (second .entry))))) (now (buffer .entry)) ⌝ }
+    ensures { λ r. ⌜ now (buffer .exit) ≡ onto (mergedRecord (now (first .entry)) (now (second .entry))) (now (buffer .entry)) ⌝ }
 {
     let h = first[0];
     let n = record::count_of(h);
