@@ -1,4 +1,3 @@
 pub mod Workspace
 pub mod Most
-pub mod First
 pub mod Blocks

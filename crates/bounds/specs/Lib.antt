@@ -1,4 +1,3 @@
 pub mod Workspace
 pub mod Greatest
-pub mod First
 pub mod Blocks

@@ -123,33 +123,3 @@ pub fn positions_before(words: &[u32], others: &[u32], a: u32, b: u32) -> usize
     }
     n
 }
-
-fn block_holds(words: &[u32], value: u32) -> bool
-{
-    let mut all = true;
-    let mut i = 0;
-    while i < 32 {
-        all = all & (words[i] == value);
-        i += 1;
-    }
-    all
-}
-
-fn blocks_held(words: &[u32], value: u32) -> usize
-{
-    let mut n = words.len();
-    while 32 <= n && block_holds(&words[n - 32..n], value) {
-        n -= 32;
-    }
-    n
-}
-
-// Where the words begin that all have the value, up to the end.
-pub fn held_from(words: &[u32], value: u32) -> usize
-{
-    let mut n = blocks_held(words, value);
-    while 0 < n && words[n - 1] == value {
-        n -= 1;
-    }
-    n
-}

@@ -38,7 +38,7 @@ fn next_pair(text: &[u32], chain: &[u32], from: TextAt, near: usize, far: usize,
         return from;
     }
     let mut z = second;
-    let mut to = buffer::lesser(z / 32 * 32 + 256, text.len());
+    let mut to = buffer::lesser(z / 32 * 32 + 512, text.len());
     loop {
         let x = z - far + near;
         z = z + measure::positions_before(&text[x..], &text[z..to], a, b);
@@ -49,7 +49,7 @@ fn next_pair(text: &[u32], chain: &[u32], from: TextAt, near: usize, far: usize,
         if text.len() <= z {
             return TextAt(z - far);
         }
-        to = buffer::lesser(z / 32 * 32 + 256, text.len());
+        to = buffer::lesser(z / 32 * 32 + 512, text.len());
     }
 }
 

@@ -3,7 +3,7 @@
 use Prim.Native.Nat.{ℕ, _+_, _-_, _≤_, _<_}
 use native.Mathlib.Decide.{decLt}
 use native.Mathlib.Omega.{arith}
-use Rattle.bounds.specs.First.{First}
+use Rattle.chain.specs.First.{First}
 
 -- None of the numbers from `from` up to i has the property.
 pub record Passing (Q : ℕ → Type 0) (from n i : ℕ) : Type 0 where
