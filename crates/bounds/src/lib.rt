@@ -1,6 +1,5 @@
 // The bounds of the rows of a comparison under way, which stand in its workspace, and the greatest of each block of 32 rows.
 use tile::PatternAt;
-use tile::TextAt;
 ghost use mathlib.Core.Path.{_≡_};
 ghost use Prim.Native.Nat.{_+_, _-_, _*_, _/_, _≤_, _<_, min, max};
 ghost use lib.ListN.{length, getD, set};
@@ -124,26 +123,17 @@ pub fn top(blocks: &[u32; 64]) -> usize
     wide(greatest(blocks))
 }
 
-fn next_block(job: Job, blocks: &[u32; 64], level: usize, from: usize) -> usize
-{
-    let mut at = from;
-    while at < job.n && wide(blocks[at / 32]) < level {
-        at += 32;
-    }
-    buffer::lesser(at, job.n)
-}
-
 // The next row that may have the level for its bound, after one that has not: where the level is above the greatest bound of
 // its block, the first of the next block.
-fn row_after(ws: &[u32], job: Job, blocks: &[u32; 64], level: usize, p: usize) -> usize
+fn row_after(blocks: &[u32; 64], level: usize, p: usize) -> usize
     requires { ⌜ p < 2048 ⌝ }
     ensures { λ r. ⌜ r ≡ rowAfter (now (blocks .entry)) level p ⌝ }
 {
     let b = p / 32;
     if wide(blocks[b]) < level {
-        return next_block(job, blocks, level, 32 * b + 32);
+        return 32 * b + 32;
     }
-    next_free_row(ws, job, PatternAt(p)).0
+    p + 1
 }
 
 // The first row from `from` on whose bound is the level, or one past the last. Blocks of rows that are below the level are
@@ -160,39 +150,7 @@ pub fn next_row(
 {
     let mut p = from.0;
     while p < job.n && bound_of(ws, job, PatternAt(p)) != level {
-        p = row_after(ws, job, blocks, level, p);
+        p = buffer::lesser(row_after(blocks, level, p), job.n);
     }
     PatternAt(p)
-}
-
-pub fn row_from(ws: &[u32], job: Job, p: PatternAt) -> PatternAt
-{
-    let n = job.n;
-    let from = 3 * (n + job.m);
-    let to = from + n;
-    PatternAt(chain::free_from(&ws[0..n], &ws[from..to], p.0))
-}
-
-pub fn next_free_row(ws: &[u32], job: Job, p: PatternAt) -> PatternAt
-{
-    let from = 3 * (job.n + job.m);
-    let to = from + job.n;
-    PatternAt(chain::next_of(&ws[from..to], p.0))
-}
-
-pub fn rows_before(ws: &[u32], job: Job, end: PatternAt) -> chain::Stretch
-{
-    let n = job.n;
-    let from = 3 * (n + job.m);
-    let to = from + n;
-    chain::stretch_before(&ws[0..n], &ws[from..to], end.0)
-}
-
-pub fn text_before(ws: &[u32], job: Job, end: TextAt) -> chain::Stretch
-{
-    let n = job.n;
-    let all = n + job.m;
-    let from = 3 * all + n;
-    let to = 4 * all;
-    chain::stretch_before(&ws[n..all], &ws[from..to], end.0)
 }

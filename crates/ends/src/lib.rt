@@ -59,9 +59,6 @@ fn copy_in(pattern: &[u32], text: &[u32], ws: &mut [u32])
     let end = n + text.len();
     copy_replaced(pattern, ws);
     copy_replaced(text, &mut ws[n..end]);
-    let from = 3 * end;
-    let to = 4 * end;
-    chain::join(&mut ws[from..to]);
 }
 
 // The goal of a whole comparison: its tiles are listed, and no comparison covers enough words to stop it.

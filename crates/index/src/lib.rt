@@ -93,10 +93,12 @@ fn put(filter: &mut [u8], at: usize, value: u8)
 }
 
 // Sets the entry of each window of the pattern, from right to left.
-fn raise_rows(ws: &[u32], job: Job, from: usize, to: usize, filter: &mut [u8; 4096])
+fn raise_rows(ws: &[u32], job: Job, filter: &mut [u8; 4096])
+    requires { ⌜ Space job (now ws) × (now filter ≡ replicate 4096 0) ⌝ }
+    ensures { λ r. ⌜ Raised job (now (ws .entry)) (now (filter .exit)) ⌝ }
 {
-    let mut p = to;
-    while from < p {
+    let mut p = job.n;
+    while 0 < p {
         p -= 1;
         let h = pattern_hash(ws, job, PatternAt(p));
         put(filter, slot_of(h), 1);
@@ -159,53 +161,17 @@ fn link_window(
     enter(heads, filter, bucket, h, t);
 }
 
-fn hash_rows(ws: &mut [u32], pass: Pass, weight: u32, filter: &mut [u8; 4096])
-{
-    let words = pass.job.n + pass.job.m;
-    let mut part = bounds::rows_before(ws, pass.job, PatternAt(pass.job.n));
-    while 0 < part.to {
-        let count = part.to - part.from;
-        if pass.s <= count {
-            window::hash_windows(&mut ws[part.from..], count, words, weight, pass.multiplier, pass.s);
-            raise_rows(ws, pass.job, part.from, part.to + 1 - pass.s, filter);
-        }
-        part = bounds::rows_before(ws, pass.job, PatternAt(part.from));
-    }
-}
-
-fn hash_texts(ws: &mut [u32], pass: Pass, weight: u32)
-{
-    let n = pass.job.n;
-    let words = n + pass.job.m;
-}
-
-fn link_stretch(ws: &mut [u32], pass: Pass, from: usize, to: usize, heads: &mut [u32; 1024], filter: &mut [u8; 4096])
-{
-    let mut free = 0;
-    let mut t = to;
-    while from < t {
-        t -= 1;
-        free = free_from(ws, pass.job, TextAt(t), free);
-        link_window(ws, pass, TextAt(t), free, heads, filter);
-    }
-}
-
 // Links the text's windows by bucket, from right to left, so that each chain rises.
-fn link_windows(ws: &mut [u32], pass: Pass, weight: u32, heads: &mut [u32; 1024], filter: &mut [u8; 4096])
+fn link_windows(ws: &mut [u32], pass: Pass, heads: &mut [u32; 1024], filter: &mut [u8; 4096])
     requires { ⌜ Space (pass .job) (now ws) × Ranges pass × (now heads ≡ replicate 1024 2048) × Raised (pass .job) (now ws) (now filter) ⌝ }
     ensures { λ r. ⌜ Linked pass (now (ws .entry)) (now (ws .exit)) (now (heads .exit)) (now (filter .exit)) ⌝ }
 {
-    let n = pass.job.n;
-    let words = n + pass.job.m;
-    let mut part = bounds::text_before(ws, pass.job, TextAt(pass.job.m));
-    while 0 < part.to {
-        let count = part.to - part.from;
-        if pass.s <= count {
-            let from = n + part.from;
-            window::hash_windows(&mut ws[from..], count, words, weight, pass.multiplier, pass.s);
-            link_stretch(ws, pass, part.from, part.to, heads, filter);
-        }
-        part = bounds::text_before(ws, pass.job, TextAt(part.from));
+    let mut free = 0;
+    let mut t = pass.job.m;
+    while 0 < t {
+        t -= 1;
+        free = free_from(ws, pass.job, TextAt(t), free);
+        link_window(ws, pass, TextAt(t), free, heads, filter);
     }
 }
 
@@ -215,7 +181,8 @@ pub fn build(ws: &mut [u32], pass: Pass, heads: &mut [u32; 1024], filter: &mut [
     requires { ⌜ Space (pass .job) (now ws) × Ranges pass × (now heads ≡ replicate 1024 2048) × (now filter ≡ replicate 4096 0) ⌝ }
     ensures { λ r. ⌜ Built pass (now (ws .entry)) (now (ws .exit)) (now (heads .exit)) (now (filter .exit)) ⌝ }
 {
-    let weight = window::power(pass.multiplier, pass.s - 1);
-    hash_rows(ws, pass, weight, filter);
-    link_windows(ws, pass, weight, heads, filter);
+    let words = pass.job.n + pass.job.m;
+    window::hash_windows(ws, words, pass.multiplier, pass.s);
+    raise_rows(ws, pass.job, filter);
+    link_windows(ws, pass, heads, filter);
 }

@@ -1,8 +1,6 @@
 // The search lengths of the passes. A pass lays every tile as long as its search length, whatever that is; so they decide only
 // how long a comparison takes.
 use index::Pass;
-use bounds::Job;
-use tile::PatternAt;
 ghost use mathlib.Core.Path.{_≡_};
 ghost use mathlib.Core.Bool.{not};
 ghost use Prim.Native.Nat.{_≤_, _<_, min, max};
@@ -195,23 +193,14 @@ fn stretch_at(w: u32, after: usize) -> usize
 }
 
 // The longest stretch of calls.
-fn longest_stretch(words: &[u32], ws: &[u32], job: Job) -> usize
+fn longest_stretch(words: &[u32]) -> usize
+    requires { ⌜ length (now words) ≤ 2048 ⌝ }
+    ensures { λ r. ⌜ r ≡ longest (now (words .entry)) ⌝ }
 {
     let mut most = 0;
-    let mut part = bounds::rows_before(ws, job, PatternAt(job.n));
-    while 0 < part.to {
-        most = longest_in(words, part.from, part.to, most);
-        part = bounds::rows_before(ws, job, PatternAt(part.from));
-    }
-    most
-}
-
-fn longest_in(words: &[u32], from: usize, to: usize, before: usize) -> usize
-{
-    let mut most = before;
     let mut free = 0;
-    let mut i = to;
-    while from < i {
+    let mut i = words.len();
+    while 0 < i {
         i -= 1;
         free = stretch_at(words[i], free);
         most = larger(most, free);
@@ -228,7 +217,7 @@ pub fn left_of(ws: &[u32], pass: Pass) -> usize
         return 0;
     }
     let n = pass.job.n;
-    longest_stretch(&ws[0..n], ws, pass.job)
+    longest_stretch(&ws[0..n])
 }
 
 // A quarter of the search length where more than two thirds of n words are covered, else half of it.

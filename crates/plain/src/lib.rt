@@ -1,6 +1,5 @@
 // The plain engine: any pair of positions may be looked at, and no hash.
 use bounds::Job;
-use chain::Stretch;
 use sweep::Found;
 use sweep::Goal;
 use sweep::Round;
@@ -27,7 +26,7 @@ ghost use Rattle.plain.specs.Pair.{SideBySide};
 
 // The first position of the text from `from` on with a so many words further on and b further still; else the end of those that have
 // a word so far on. With few codes it is often `from` itself.
-fn next_pair(text: &[u32], chain: &[u32], from: TextAt, near: usize, far: usize, a: u32, b: u32) -> TextAt
+fn next_pair(text: &[u32], from: TextAt, near: usize, far: usize, a: u32, b: u32) -> TextAt
     requires { ⌜ (near ≤ far) × (from .0 + far < length (now text)) ⌝ }
     ensures { λ r. ⌜ First (SideBySide (now (text .entry)) near far a b) (from .0) (length (now (text .entry)) - far) (r .0) ⌝ }
 {
@@ -37,26 +36,13 @@ fn next_pair(text: &[u32], chain: &[u32], from: TextAt, near: usize, far: usize,
     if (text[first] == a) & (text[second] == b) {
         return from;
     }
-    let mut z = second;
-    let mut to = buffer::lesser(z / 32 * 32 + 512, text.len());
-    loop {
-        let x = z - far + near;
-        z = z + measure::positions_before(&text[x..], &text[z..to], a, b);
-        if z < to {
-            return TextAt(z - far);
-        }
-        z = chain::free_from(text, chain, z);
-        if text.len() <= z {
-            return TextAt(z - far);
-        }
-        to = buffer::lesser(z / 32 * 32 + 512, text.len());
-    }
+    TextAt(at + measure::positions_before(&text[first..], &text[second..], a, b))
 }
 
 // The longest run of the row that pattern starts, where it is longer than floor, and the first position on the text that
 // has it. A run longer than what was found has the pattern's word at that offset, and the one where the last run that was measured
 // ended, so only the positions where both stand are looked at; and none within a run of one word again and again.
-fn row_search(pattern: &[u32], text: &[u32], chain: &[u32], floor: usize) -> Found
+fn row_search(pattern: &[u32], text: &[u32], floor: usize) -> Found
     requires { ⌜ (floor ≤ 2048) × (length (now pattern) ≤ 2048) × (length (now text) ≤ 2048) × Current (now pattern) × Current (now text) ⌝ }
     ensures { λ r. ⌜ Row (now (pattern .entry)) (now (text .entry)) floor r ⌝ }
 {
@@ -69,7 +55,7 @@ fn row_search(pattern: &[u32], text: &[u32], chain: &[u32], floor: usize) -> Fou
     let mut t = 0;
     while found.len < pattern.len() && t + found.len < text.len() {
         let far = found.len;
-        let at = next_pair(text, chain, TextAt(t), ended, far, pattern[ended], pattern[far]).0;
+        let at = next_pair(text, TextAt(t), ended, far, pattern[ended], pattern[far]).0;
         let len = measure::measured_run(pattern, &text[at..], far);
         ended = buffer::lesser(len, far);
         found = sweep::keep(found, TextAt(at), len);
@@ -87,9 +73,7 @@ fn search_row(ws: &[u32], job: Job, p: PatternAt, floor: usize, cap: usize) -> F
     let n = job.n;
     let to = from + buffer::lesser(cap, n - from);
     let end = n + job.m;
-    let links = 3 * end + n;
-    let all = 4 * end;
-    row_search(&ws[from..to], &ws[n..end], &ws[links..all], floor)
+    row_search(&ws[from..to], &ws[n..end], floor)
 }
 
 // Whether the run at t of the row after p goes on with the words one position before it.
@@ -176,21 +160,12 @@ fn fill_bounds(ws: &mut [u32], job: Job, last: &mut usize)
     requires { ⌜ Space job (now ws) × (1 ≤ job .minimum) × (job .minimum ≤ 256) ⌝ }
     ensures { λ r. ⌜ Filled job (now (ws .entry)) (now (ws .exit)) ⌝ }
 {
-    let mut part = bounds::rows_before(ws, job, PatternAt(job.n));
-    while 0 < part.to {
-        fill_stretch(ws, job, last, part);
-        part = bounds::rows_before(ws, job, PatternAt(part.from));
-    }
-}
-
-fn fill_stretch(ws: &mut [u32], job: Job, last: &mut usize, part: Stretch)
-{
     let mut after = Found {
         t: TextAt(0),
         len: 0,
     };
-    let mut p = part.to;
-    while part.from < p {
+    let mut p = job.n;
+    while 0 < p {
         p -= 1;
         after = row_bound(ws, job, last, PatternAt(p), after);
         bounds::set_bound(ws, job, PatternAt(p), after.len);
@@ -274,7 +249,7 @@ fn sweep_rows(
     let mut p = bounds::next_row(ws, job, blocks, level, PatternAt(0));
     while p.0 < job.n && !sweep::at_goal(sum) {
         sum = step(ws, job, last, blocks, p, tiles, sum);
-        p = bounds::next_row(ws, job, blocks, level, bounds::next_free_row(ws, job, p));
+        p = bounds::next_row(ws, job, blocks, level, PatternAt(p.0 + 1));
     }
     sum
 }

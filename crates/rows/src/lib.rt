@@ -1,7 +1,6 @@
 // Rows searched by the index. A word of the pattern is compared with one of the text in `visit` and in `goes_on`, only where two
 // windows have the same hash, and nowhere else in the fast engine.
 use bounds::Job;
-use chain::Stretch;
 use index::Pass;
 use sweep::Found;
 use tile::PatternAt;
@@ -318,21 +317,12 @@ pub fn fill_bounds(
     requires { ⌜ Space (pass .job) (now ws) × Indexed pass (now ws) (now heads) × Filtered pass (now ws) (now filter) × Ranges pass ⌝ }
     ensures { λ r. ⌜ FilledRows pass (now (heads .entry)) (now (ws .entry)) (now (ws .exit)) ⌝ }
 {
-    let mut part = bounds::rows_before(ws, pass.job, PatternAt(pass.job.n));
-    while 0 < part.to {
-        fill_stretch(ws, pass, heads, filter, last, part);
-        part = bounds::rows_before(ws, pass.job, PatternAt(part.from));
-    }
-}
-
-fn fill_stretch(ws: &mut [u32], pass: Pass, heads: &[u32; 1024], filter: &[u8; 4096], last: &mut [u32; 1024], part: Stretch)
-{
     let mut after = Found {
         t: TextAt(0),
         len: 0,
     };
-    let mut p = part.to;
-    while part.from < p {
+    let mut p = pass.job.n;
+    while 0 < p {
         p -= 1;
         after = row_bound(ws, pass, heads, filter, last, PatternAt(p), after);
         bounds::set_bound(ws, pass.job, PatternAt(p), after.len);

@@ -196,13 +196,6 @@ fn lay_tile(ws: &mut [u32], job: Job, p: PatternAt, t: TextAt, len: usize)
     tile::mark_words(ws, p.0, len);
     tile::mark_words(ws, job.n + t.0, len);
     tile::mark_words(ws, rows, len);
-    let n = job.n;
-    let end = n + job.m;
-    let on_pattern = 3 * end;
-    let on_text = on_pattern + n;
-    let all = 4 * end;
-    chain::unlink(&mut ws[on_pattern..on_text], p.0, len);
-    chain::unlink(&mut ws[on_text..all], t.0, len);
 }
 
 // How many fewer words of the pattern further tiles may take after one of len words at p.

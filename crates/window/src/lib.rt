@@ -16,7 +16,7 @@ fn wrapping_mul(a: u32, b: u32) -> u32
 }
 
 // The e-th power of b, modulo 2^32; 1 for e = 0, whatever b is.
-pub fn power(b: u32, e: usize) -> u32
+fn power(b: u32, e: usize) -> u32
     ensures { λ r. ⌜ r ≡ b ^ e % 2 ^ 32 ⌝ }
 {
     let mut p = 1;
@@ -88,13 +88,19 @@ fn fill_hashes(words: &[u32], b: u32, s: usize, buffer: &mut [u32])
 // Fills the part of the workspace after its first total words with the hash at each position of those where a window of s
 // words fits. The words are hashed as they stand: in a workspace they are replaced already. Each hash waits for the one before it,
 // so two are rolled side by side, from the first window and from the middle one.
-pub fn hash_windows(ws: &mut [u32], count: usize, total: usize, weight: u32, b: u32, s: usize)
+pub fn hash_windows(ws: &mut [u32], total: usize, b: u32, s: usize)
+    requires { ⌜ (1 ≤ s) × (total ≤ 4096) × (2 * total ≤ length (now ws)) ⌝ }
+    ensures { λ r. ⌜ now (ws .exit) ≡ take total (now (ws .entry)) ++ onto (hashesBy (wordsHash b) s (take total (now (ws .entry)))) (drop total (now (ws .entry))) ⌝ }
 {
-    let half = (count + 1 - s) / 2;
+    if total < s {
+        return;
+    }
+    let weight = power(b, s - 1);
+    let half = (total + 1 - s) / 2;
     let mut near = hash_of(b, &ws[0..s]);
     let mut far = hash_of(b, &ws[half..half + s]);
     let mut i = 0;
-    while half + i + s < count {
+    while half + i + s < total {
         let next_near = roll(near, ws[i], weight, b, ws[i + s]);
         let next_far = roll(far, ws[half + i], weight, b, ws[half + i + s]);
         ws[total + i] = near;
