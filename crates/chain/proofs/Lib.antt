@@ -1,1 +1,4 @@
 pub mod First
+pub mod Entry
+pub mod Links
+pub mod Unlinking
