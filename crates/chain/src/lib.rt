@@ -1,6 +1,6 @@
 // The free words of a sequence as a chain: each has an entry that says where the next one stands and where the one before.
 ghost use mathlib.Core.Path.{_≡_};
-ghost use Prim.Native.Nat.{_+_, _≤_, _<_};
+ghost use Prim.Native.Nat.{_+_, _-_, _/_, _≤_, _<_};
 ghost use lib.ListN.{length, getD, set};
 ghost use Rattle.chain.specs.First.{First, Last};
 ghost use Rattle.chain.specs.Chain.{Free, gapBefore, nextOf, beforeOf, entry, Ranged, Chained};
