@@ -92,6 +92,14 @@ module _ (next : ℕ) (es : List ℕ) (r : Ranged es) (small : next ≤ 2048) wh
       ahead k z (no d) = omega (arith, on-other before k d, r .ahead k z, length-on before next es)
 
 -- ---- the next word points back
+length-pointed-back : (before next : ℕ) (es : List ℕ) → length (pointedBack before next es) ≡ length es
+unfolding pointedBack
+length-pointed-back before next es = go (ltb next (length es))
+  where
+    go : (b : Bool) → length {A = ℕ} (elim b [ true ↦ set es next (entry next before (nextOf es next)) | false ↦ es ]) ≡ length es
+    go true = length-set es next (entry next before (nextOf es next))
+    go false = refl
+
 module _ (before next : ℕ) (es : List ℕ) (low : before ≤ next) (r : Ranged es) where
   abbrev back : List ℕ
   back = set es next (entry next before (nextOf es next))
@@ -109,7 +117,7 @@ module _ (before next : ℕ) (es : List ℕ) (low : before ≤ next) (r : Ranged
       go false e = no-back (ltb-false next (length es) e)
 
   pub length-back : length (pointedBack before next es) ≡ length es
-  length-back = go-back (λ xs. length xs ≡ length es) (λ h. length-set es next (entry next before (nextOf es next))) (λ h. refl)
+  length-back = length-pointed-back before next es
 
   small : next < length es → nextOf es next ≤ 2048
   small h = omega (arith, r .ahead next h, r .short)
@@ -410,6 +418,24 @@ module _ (xs es : List ℕ) (c : Chained xs es) (at len : ℕ) (some : 1 ≤ len
       (last / 32 - at / 32)
       (omega arith)
       (chained-more (set mended at (entry at before next)) last (omega arith) (omega arith) (chained-more mended at (omega arith) (omega arith) chained-mended))
+
+-- ---- as many entries as before
+length-led : (before next b n : ℕ) (es : List ℕ) → length (led before next b n es) ≡ length es
+unfolding led
+length-led before next b zero es = refl
+length-led before next b (suc n) es =
+    length-set (led before next b n es) (32 * (b + suc n)) (entry (32 * (b + suc n)) before next) ∙ length-led before next b n es
+
+pub length-unlinked : (at len : ℕ) (es : List ℕ) → length (unlinked at len es) ≡ length es
+unfolding unlinked
+length-unlinked at len es =
+    let last = at + len - 1 in
+    let before = beforeOf es at in
+    let next = nextOf es last in
+    let es₂ = pointedBack before next (pointedOn before next es) in
+    length-led before next (at / 32) (last / 32 - at / 32) (set (set es₂ at (entry at before next)) last (entry last before next))
+    ∙ (length-set (set es₂ at (entry at before next)) last (entry last before next)
+    ∙ (length-set es₂ at (entry at before next) ∙ (length-pointed-back before next (pointedOn before next es) ∙ length-on before next es)))
 
 -- ---- at the start
 zero-next : (es : List ℕ) (i : ℕ) → getD es i 0 ≡ 0 → nextOf es i ≡ i + 1
