@@ -3,6 +3,7 @@
 use Prim.Native.Nat.{ℕ, _+_, _-_, _≤_, _<_}
 use native.Mathlib.Decide.{decLt}
 use native.Mathlib.Omega.{arith}
+use mathlib.Core.Path.{_≡_}
 use Rattle.chain.specs.First.{First, Passing}
 
 pub passing-none : (Q : ℕ → Type 0) (from n : ℕ) → from ≤ n → Passing Q from n from
@@ -15,6 +16,9 @@ module _ (Q : ℕ → Type 0) (from n i : ℕ) (r : Passing Q from n i) where
       none : (k : ℕ) → from ≤ k → k < next → Dec (k < i) → Q k → ⊥
       none k a b (yes m) = r .none k a m
       none k a b (no m) = d k (omega (arith, m)) b
+
+  pub passing-one : i < n → (Q i → ⊥) → Passing Q from n (i + 1)
+  passing-one h d = passing-to (i + 1) (omega arith) (omega arith) (λ k a b q. let e : k ≡ i = omega arith in d (rw e at q))
 
   pub first-none : n ≤ i → First Q from n i
   first-none h = record { least = r .least; within = r .within; none = r .none; stops = λ l. absurd (omega arith) }
