@@ -171,6 +171,7 @@ module _ (x : Pass) (ws fs : List ℕ) (from to : ℕ) (ranges : Ranges x) (st :
 
 -- ---- stretch by stretch
 pub record RowWalk (x : Pass) (ws₀ ws fs : List ℕ) (from to : ℕ) : Type 0 where
+  pub room : length ws ≡ length ws₀
   pub same : state (x .job) ws ≡ state (x .job) ws₀
   pub walk : Walk (state (x .job) ws .pattern) from to
   pub rows : RowsFrom x ws fs to
@@ -196,6 +197,7 @@ none-rows x ws fs ranges space fresh =
 pub row-walk-first : (x : Pass) (ws fs : List ℕ) (from to : ℕ) → Ranges x → Space (x .job) ws → fs ≡ replicate 4096 0 → StretchBefore (state (x .job) ws .pattern) (x .job .n) from to → RowWalk x ws ws fs from to
 row-walk-first x ws fs from to ranges space fresh b =
     record {
+      room = refl;
       same = refl;
       walk = walk-first (state (x .job) ws .pattern) (x .job .n) from to (sym (pattern-length (x .job) ws space)) b;
       rows = rows-skip x ws fs to (x .job .n) (b .within) (busy-between (x .s) (state (x .job) ws .pattern) (x .job .n) from to (ranges .one) b) (none-rows x ws fs ranges space fresh);
@@ -208,10 +210,11 @@ module _ (x : Pass) (ws₀ ws fs : List ℕ) (from to : ℕ) (w : RowWalk x ws�
   pub row-walk-end : from ≤ x .job .n
   row-walk-end = omega (arith, w .walk .within, pattern-length (x .job) ws (w .rows .space))
 
-  module _ (some : 0 < to) (ws' fs' : List ℕ) (same : state (x .job) ws' ≡ state (x .job) ws) (rows : RowsFrom x ws' fs' from) where
+  module _ (some : 0 < to) (ws' fs' : List ℕ) (size : length ws' ≡ length ws) (same : state (x .job) ws' ≡ state (x .job) ws) (rows : RowsFrom x ws' fs' from) where
     pub row-walk-next : Ranges x → (from' to' : ℕ) → StretchBefore (state (x .job) ws' .pattern) from from' to' → RowWalk x ws₀ ws' fs' from' to'
     row-walk-next ranges from' to' b =
         record {
+          room = size ∙ w .room;
           same = same ∙ w .same;
           walk = walk-next (state (x .job) ws' .pattern) from from' to' (walk' .within) (walk' .edge) b;
           rows = rows-skip x ws' fs' to' from (b .within) (busy-between (x .s) (state (x .job) ws' .pattern) from from' to' (ranges .one) b) rows;
@@ -219,9 +222,6 @@ module _ (x : Pass) (ws₀ ws fs : List ℕ) (from to : ℕ) (w : RowWalk x ws�
       where
         walk' : Walk (state (x .job) ws' .pattern) from to
         walk' = subst (λ (z : State). Walk (z .pattern) from to) (sym same) (w .walk)
-
-    pub row-walk-less : (from' to' : ℕ) → StretchBefore (state (x .job) ws' .pattern) from from' to' → to' < to
-    row-walk-less from' to' b = omega (arith, b .within, w .walk .here some .some)
 
   pub row-walk-all : to ≤ 0 → RowsFrom x ws fs 0
   row-walk-all none = let e : 0 ≡ to = omega arith in rw e (w .rows)

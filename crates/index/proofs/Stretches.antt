@@ -14,6 +14,7 @@ use Rattle.index.proofs.Free.{Busy, busy-by}
 -- Where a walk over the stretches stands: at a stretch, unless there is none left.
 pub record Walk (xs : List ℕ) (from to : ℕ) : Type 0 where
   pub within : from ≤ length xs
+  pub apart : from ≤ to - 1
   pub here : 0 < to → Stretched xs from to
   pub edge : 0 < from → Free xs (from - 1) → ⊥
 
@@ -25,10 +26,19 @@ busy-between s xs end from to least b q k l = busy-by s xs q q (omega arith) (om
 pub end-marked : (xs : List ℕ) (i : ℕ) → length xs ≤ i → Free xs i → ⊥
 end-marked xs i h free = free (List·getD-eq-default xs 0 {n = i} h)
 
+-- A stretch begins before its end; where there is none both are 0.
+stretch-apart : (xs : List ℕ) (end from to : ℕ) → StretchBefore xs end from to → from ≤ to - 1
+stretch-apart xs end from to b = go (ℕ-discrete to 0)
+  where
+    go : Dec (to ≡ 0) → from ≤ to - 1
+    go (yes d) = omega (arith, d, b .ordered)
+    go (no d) = omega (arith, d, b .some (omega (arith, d)))
+
 pub walk-first : (xs : List ℕ) (end from to : ℕ) → end ≡ length xs → StretchBefore xs end from to → Walk xs from to
 walk-first xs end from to e b =
     record {
       within = omega (arith, b .ordered, b .within);
+      apart = stretch-apart xs end from to b;
       here = λ some.
           record {
             some = b .some some;
@@ -47,6 +57,7 @@ pub walk-next : (xs : List ℕ) (end from to : ℕ) → end ≤ length xs → (0
 walk-next xs end from to inside edge b =
     record {
       within = omega (arith, b .ordered, b .within);
+      apart = stretch-apart xs end from to b;
       here = λ some.
           record {
             some = b .some some;

@@ -171,6 +171,7 @@ module _ (x : Pass) (ws hs fs : List ℕ) (from to : ℕ) (ranges : Ranges x) (s
 
 -- ---- stretch by stretch
 pub record TextWalk (x : Pass) (ws₀ ws hs fs : List ℕ) (from to : ℕ) : Type 0 where
+  pub room : length ws ≡ length ws₀
   pub same : state (x .job) ws ≡ state (x .job) ws₀
   pub walk : Walk (state (x .job) ws .text) from to
   pub texts : TextsFrom x ws hs fs to
@@ -196,6 +197,7 @@ none-texts x ws hs fs ranges fresh rows =
 pub text-walk-first : (x : Pass) (ws hs fs : List ℕ) (from to : ℕ) → Ranges x → hs ≡ replicate 1024 2048 → RowsFrom x ws fs 0 → StretchBefore (state (x .job) ws .text) (x .job .m) from to → TextWalk x ws ws hs fs from to
 text-walk-first x ws hs fs from to ranges fresh rows b =
     record {
+      room = refl;
       same = refl;
       walk = walk-first (state (x .job) ws .text) (x .job .m) from to (sym (text-length (x .job) ws (rows .space))) b;
       texts = texts-skip x ws hs fs to (x .job .m) (b .within) (busy-between (x .s) (state (x .job) ws .text) (x .job .m) from to (ranges .one) b) (none-texts x ws hs fs ranges fresh rows);
@@ -208,10 +210,11 @@ module _ (x : Pass) (ws₀ ws hs fs : List ℕ) (from to : ℕ) (w : TextWalk x 
   pub text-walk-end : from ≤ x .job .m
   text-walk-end = omega (arith, w .walk .within, text-length (x .job) ws (w .texts .space))
 
-  module _ (some : 0 < to) (ws' hs' fs' : List ℕ) (same : state (x .job) ws' ≡ state (x .job) ws) (texts : TextsFrom x ws' hs' fs' from) where
+  module _ (some : 0 < to) (ws' hs' fs' : List ℕ) (size : length ws' ≡ length ws) (same : state (x .job) ws' ≡ state (x .job) ws) (texts : TextsFrom x ws' hs' fs' from) where
     pub text-walk-next : Ranges x → (from' to' : ℕ) → StretchBefore (state (x .job) ws' .text) from from' to' → TextWalk x ws₀ ws' hs' fs' from' to'
     text-walk-next ranges from' to' b =
         record {
+          room = size ∙ w .room;
           same = same ∙ w .same;
           walk = walk-next (state (x .job) ws' .text) from from' to' (walk' .within) (walk' .edge) b;
           texts = texts-skip x ws' hs' fs' to' from (b .within) (busy-between (x .s) (state (x .job) ws' .text) from from' to' (ranges .one) b) texts;
@@ -219,9 +222,6 @@ module _ (x : Pass) (ws₀ ws hs fs : List ℕ) (from to : ℕ) (w : TextWalk x 
       where
         walk' : Walk (state (x .job) ws' .text) from to
         walk' = subst (λ (z : State). Walk (z .text) from to) (sym same) (w .walk)
-
-    pub text-walk-less : (from' to' : ℕ) → StretchBefore (state (x .job) ws' .text) from from' to' → to' < to
-    text-walk-less from' to' b = omega (arith, b .within, w .walk .here some .some)
 
   pub text-walk-all : to ≤ 0 → TextsFrom x ws hs fs 0
   text-walk-all none = let e : 0 ≡ to = omega arith in rw e (w .texts)

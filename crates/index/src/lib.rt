@@ -1,5 +1,5 @@
-// The index of a pass: the hash of each window, and for each bucket the positions of the text whose windows fall into it, in
-// rising order. Only windows of the text are linked whose hash the pattern may have.
+// The index of a pass: the hash of each free window, and for each bucket the positions of the text whose windows fall into it, in
+// rising order. Only windows of the text are linked whose hash the pattern may have. Windows are found by the chains of free words.
 use bounds::Job;
 use bounds::Rows;
 use bounds::Texts;
@@ -78,7 +78,7 @@ pub fn first_text(heads: &[u32; 1024], bucket: usize) -> TextAt
     TextAt(bounds::wide(heads[bucket]))
 }
 
-// The entry of the filter for a hash: 0 where the pattern has no window with that entry, 1 where it has one, and 2 where a
+// The entry of the filter for a hash: 0 where the pattern has no free window with that entry, 1 where it has one, and 2 where a
 // window of the text is linked that has it too.
 pub fn entry_of(filter: &[u8; 4096], h: u32) -> u8
     ensures { λ r. ⌜ r ≡ getD (now (filter .entry)) (slot h) 0 ⌝ }
@@ -100,17 +100,18 @@ fn hash_part(ws: &mut [u32], pass: Pass, weight: u32, from: usize, count: usize)
     ensures { λ r. ⌜ PartHashed pass from count (now (ws .entry)) (now (ws .exit)) ⌝ }
 {
     let words = pass.job.n + pass.job.m;
-    window::hash_windows(&mut ws[from..], count, words, weight, pass.multiplier, pass.s);
+    window::hash_windows(
+        &mut ws[from..],
+        count,
+        words,
+        weight,
+        pass.multiplier,
+        pass.s,
+    );
 }
 
 // Sets the entries of the pattern's windows from one position up to another, from right to left.
-fn raise_rows(
-    ws: &[u32],
-    pass: Pass,
-    from: PatternAt,
-    to: PatternAt,
-    filter: &mut [u8; 4096],
-)
+fn raise_rows(ws: &[u32], pass: Pass, from: PatternAt, to: PatternAt, filter: &mut [u8; 4096])
     requires { ⌜ Space (pass .job) (now ws) × (from .0 ≤ to .0) × ((q : ℕ) → from .0 ≤ q → q < to .0 → AllFree (pass .s) (state (pass .job) (now ws) .pattern) q) × RaisedFrom pass (now ws) (now filter) (to .0) ⌝ }
     ensures { λ r. ⌜ RaisedFrom pass (now (ws .entry)) (now (filter .exit)) (from .0) ⌝ }
 {
@@ -135,13 +136,7 @@ fn enter_rows(ws: &mut [u32], pass: Pass, weight: u32, part: Rows, filter: &mut 
 }
 
 // Hashes the windows of a stretch of the pattern and sets their entries; where the stretch is too short it has none.
-fn hash_row_stretch(
-    ws: &mut [u32],
-    pass: Pass,
-    weight: u32,
-    part: Rows,
-    filter: &mut [u8; 4096],
-)
+fn hash_row_stretch(ws: &mut [u32], pass: Pass, weight: u32, part: Rows, filter: &mut [u8; 4096])
     requires { ⌜ Ranges pass × (weight ≡ weightOf pass) × Stretched (state (pass .job) (now ws) .pattern) (part .from .0) (part .to .0) × RowsFrom pass (now ws) (now filter) (part .to .0) ⌝ }
     ensures { λ r. ⌜ state (pass .job) (now (ws .exit)) ≡ state (pass .job) (now (ws .entry)) ⌝ }
     ensures { λ r. ⌜ RowsFrom pass (now (ws .exit)) (now (filter .exit)) (part .from .0) ⌝ }
