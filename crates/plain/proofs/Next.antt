@@ -14,7 +14,7 @@ use Rattle.tiling.proofs.Leading.{leading-within}
 use Rattle.measure.specs.Before.{otherThan, before}
 use Rattle.measure.proofs.Before.{before-passes, before-found}
 use Rattle.buffer.proofs.Buffer.{tail-is}
-use Rattle.bounds.specs.First.{First}
+use Rattle.chain.specs.First.{First}
 use Rattle.plain.specs.Pair.{SideBySide}
 
 module _ (ts : List ℕ) (from near far a b n : ℕ) (order : near ≤ far) (h : from + far < length ts) (e : n ≡ before a b (take (length ts - (from + near)) (drop (from + near) ts)) (take (length ts - (from + far)) (drop (from + far) ts))) where

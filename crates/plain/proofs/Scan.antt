@@ -22,7 +22,7 @@ use Rattle.buffer.proofs.Buffer.{tail-is}
 use Rattle.measure.specs.Block.{counted}
 use Rattle.measure.proofs.Longer.{counted-longer, counted-most}
 use Rattle.sweep.specs.Row.{Row, better, passedOver}
-use Rattle.bounds.specs.First.{First}
+use Rattle.chain.specs.First.{First}
 use Rattle.sweep.specs.declared.Found.{Found}
 use Rattle.plain.specs.Pair.{SideBySide}
 use Rattle.sweep.proofs.Row.{better-new, better-old}

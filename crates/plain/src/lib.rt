@@ -15,7 +15,7 @@ ghost use Rattle.symbol.specs.Sequence.{Current};
 ghost use Rattle.tiling.specs.Comparing.{plainRefusal, Comparable};
 ghost use Rattle.bounds.specs.Workspace.{Space, state, bound};
 ghost use Rattle.sweep.specs.Row.{Row};
-ghost use Rattle.bounds.specs.First.{First};
+ghost use Rattle.chain.specs.First.{First};
 ghost use Rattle.bounds.specs.Blocks.{Covering, Falling};
 ghost use Rattle.sweep.specs.Goal.{atGoal};
 ghost use Rattle.sweep.specs.Progress.{Fits, Searched, UpperFrom, RowBound, Filled, Ready, Sweeping, Over, Onward, Finished};
