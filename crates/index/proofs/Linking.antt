@@ -1,7 +1,7 @@
 -- One position of the text after another, from right to left. The head of a bucket is its first linked window from here on; so a link that
 -- takes it over is the next one after this, and where the window at t is free and the pattern has its entry it becomes the head.
 -- Assumes nothing.
-use Prim.Native.Nat.{ℕ, _+_, _-_, _*_, _≤_, _<_}
+use Prim.Native.Nat.{ℕ, _+_, _-_, _≤_, _<_}
 use native.Mathlib.Decide.{decLt, ℕ-discrete}
 use native.Mathlib.Omega.{arith}
 use mathlib.Core.Path.{_≡_, refl, sym, _∙_, ap}
@@ -15,7 +15,7 @@ use lib.Seq.{getD-set-same, getD-set-other, drop-set-lt}
 use Rattle.tiling.specs.Stretch.{freeFirst}
 use Rattle.tiling.specs.Tiling.{State}
 use Rattle.window.specs.Hash.{bucket}
-use Rattle.bounds.specs.Workspace.{Space, state, boundsFrom}
+use Rattle.bounds.specs.Workspace.{Space, state, boundsFrom, chainsFrom}
 use Rattle.bounds.specs.declared.Job.{Job}
 use Rattle.bounds.proofs.Workspace.{state-set, space-kept}
 use Rattle.index.specs.Indexed.{patternHash, textHash, link, slot, Ranges}
@@ -246,8 +246,8 @@ module _ (x : Pass) (from : ℕ) (ws₀ ws hs fs : List ℕ) (t after free : ℕ
         let k : at ≡ boundsFrom j + (j .n + t) = omega arith in
         rw (words, k) (state-set j ws (j .n + t) (getD hs b 0))
 
-    tail-linked : drop (3 * (j .n + j .m)) ws' ≡ drop (3 * (j .n + j .m)) ws
-    tail-linked = rw words (drop-set-lt (3 * (j .n + j .m)) ws at (getD hs b 0) (omega arith))
+    tail-linked : drop (chainsFrom j) ws' ≡ drop (chainsFrom j) ws
+    tail-linked = rw words (drop-set-lt (chainsFrom j) ws at (getD hs b 0) (omega arith))
 
     pub step-linked : length ws' ≡ length ws → Backward x from ws₀ ws' hs' fs' t free
     step-linked same =

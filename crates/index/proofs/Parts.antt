@@ -15,9 +15,9 @@ use Rattle.window.specs.Hash.{wordsHash}
 use Rattle.window.specs.HashList.{hashesBy, hashAt}
 use Rattle.window.proofs.HashList.{length-hashes, getD-hashes, hash-current}
 use Rattle.symbol.specs.Sequence.{Current}
-use Rattle.bounds.specs.Workspace.{Space, state, boundsFrom, bound}
+use Rattle.bounds.specs.Workspace.{Space, state, boundsFrom, chainsFrom}
 use Rattle.bounds.specs.declared.Job.{Job}
-use Rattle.bounds.proofs.Workspace.{space-kept}
+use Rattle.bounds.proofs.Workspace.{front-state, space-kept}
 use Rattle.index.specs.Indexed.{Ranges, link}
 use Rattle.index.specs.Built.{PartHashed}
 use Rattle.index.specs.declared.Pass.{Pass}
@@ -111,10 +111,6 @@ part-hashed x from count ws part space ranges long fits e =
         ∙ (take-take (x .s) (count - k) (drop k (drop from ws)) (omega arith) ∙ ap (take (x .s)) (drop-drop k from ws))
 
 -- ---- and what it leaves
--- A part of a front part.
-take-front : (a b : ℕ) (xs ys : List ℕ) → take (a + b) xs ≡ take (a + b) ys → take a xs ≡ take a ys
-take-front a b xs ys e = sym (take-take a (a + b) xs (omega arith)) ∙ (ap (take a) e ∙ take-take a (a + b) ys (omega arith))
-
 module _ (x : Pass) (from count : ℕ) (ws ws' : List ℕ) (h : PartHashed x from count ws ws') (space : Space (x .job) ws) (ranges : Ranges x) (fits : from + count ≤ x .job .n + x .job .m) where
   abbrev j : Job
   j = x .job
@@ -128,21 +124,16 @@ module _ (x : Pass) (from count : ℕ) (ws ws' : List ℕ) (h : PartHashed x fro
       let less : i < j .n + j .m = omega (arith, short') in
       getD-take (j .n + j .m) ws' i 0 less ∙ (h .before i (omega arith) ∙ sym (getD-take (j .n + j .m) ws i 0 less)))
 
-  same-text : take (j .m) (drop (j .n) ws') ≡ take (j .m) (drop (j .n) ws)
-  same-text =
-      let all : j .n + j .m - j .n ≡ j .m = omega arith in
-      rw (← all, rest-of-front (j .n) (j .n + j .m) ws', rest-of-front (j .n) (j .n + j .m) ws) (ap (drop (j .n)) same-front)
-
   -- The sequences are as they were, and so are the bounds and all that follows them.
   pub part-state : state j ws' ≡ state j ws
-  part-state = λ i. record { pattern = take-front (j .n) (j .m) ws' ws same-front i; text = same-text i }
+  part-state = front-state j ws ws' same-front
 
   pub part-later : (i : ℕ) → boundsFrom j ≤ i → getD ws' i 0 ≡ getD ws i 0
   part-later i l = h .after i (omega (arith, ranges .one))
 
-  same-tail : drop (3 * (j .n + j .m)) ws' ≡ drop (3 * (j .n + j .m)) ws
+  same-tail : drop (chainsFrom j) ws' ≡ drop (chainsFrom j) ws
   same-tail =
-      let a = 3 * (j .n + j .m) in
+      let a = chainsFrom j in
       ext-getD 0 (drop a ws') (drop a ws) (length-drop a ws' ∙ (ap (λ n. n - a) (h .room) ∙ sym (length-drop a ws)))
       (λ i l. getD-drop a ws' i 0 ∙ (part-later (a + i) (omega arith) ∙ sym (getD-drop a ws i 0)))
 
