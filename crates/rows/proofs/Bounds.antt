@@ -9,25 +9,26 @@ use mathlib.Core.Bool.{Bool, true, false, _&&_}
 use mathlib.Core.List.{List}
 use borrow.Author.Tests.{ltb-true, lt-ltb, le-ltb, eq-eqb, ne-eqb}
 use lib.Dec.{ltb, eqb}
-use lib.ListN.{drop, getD, set, length-drop}
+use lib.ListN.{length, drop, getD, set, length-drop}
 use Rattle.symbol.specs.Word.{equalCalls}
 use Rattle.symbol.proofs.Word.{and-left}
 use Rattle.tiling.specs.Tiling.{State, runAt}
 use Rattle.tiling.proofs.Run.{run-within}
 use Rattle.tile.specs.declared.TextAt.{TextAt}
+use Rattle.chain.specs.Stretches.{StretchBefore}
 use Rattle.bounds.specs.Workspace.{Space, state, boundsFrom}
 use Rattle.sweep.specs.Row.{boundBy, freeWords, before}
-use Rattle.sweep.specs.Progress.{UpperFrom, RowBound}
+use Rattle.sweep.specs.Progress.{UpperFrom, RowBound, NextRows}
 use Rattle.sweep.specs.declared.Found.{Found}
 use Rattle.bounds.specs.declared.Job.{Job}
 use Rattle.bounds.proofs.Workspace.{pattern-length}
 use Rattle.sweep.proofs.Told.{Telling, telling-none, telling-both, free-tells, bound-tells, bound-told, before-some}
-use Rattle.sweep.proofs.Bounds.{Filling, filling-none, filling-more, filling-all}
+use Rattle.sweep.proofs.Bounds.{Filling, filling-none, filling-more, filling-all, Stretching, stretching-none, stretching-next, stretching-within, stretching-more, stretching-less, stretching-all}
 use Rattle.index.specs.Indexed.{Ranges, Indexed, Filtered, patternHash, textHash, slot, place}
 use Rattle.index.specs.Built.{when}
 use Rattle.index.specs.declared.Pass.{Pass}
 use Rattle.index.proofs.Kept.{Kept, indexed-kept, filtered-kept, kept-set}
-use Rattle.rows.specs.Reached.{Reached, Looked, FilledRows, toldBy, goesOn}
+use Rattle.rows.specs.Reached.{Reached, Looked, FilledStretch, FilledRows, toldBy, goesOn}
 
 -- ---- what was remembered
 pub remembered-not : (last : List ℕ) (len cap b p : ℕ) → cap ≤ len → last ≡ when (ltb len cap) (set last b p) last
@@ -135,26 +136,62 @@ module _ (x : Pass) (ws : List ℕ) where
             omega (arith, r .long l, run-within (drop p (st .pattern)) (drop (g .t .0) (st .text)), length-drop p (st .pattern), pattern-length (x .job) ws space, c .within)
         within (no l) = omega (arith, c .within, l, r .least)
 
--- ---- all of them
-pub record FillingRows (x : Pass) (heads filter ws₀ ws : List ℕ) (p after : ℕ) : Type 0 where
-  pub filling : Filling (x .job) ws₀ ws p after
+-- ---- the rows of a stretch
+pub record FillingRows (x : Pass) (heads filter ws₀ ws : List ℕ) (from to p after : ℕ) : Type 0 where
+  pub filling : Filling (x .job) ws₀ ws from p after
+  pub below : p ≤ to
   pub ranges : Ranges x
   pub indexed : Indexed x ws heads
   pub filtered : Filtered x ws filter
 
-pub rows-none : (x : Pass) (heads filter ws : List ℕ) → Space (x .job) ws → Ranges x → Indexed x ws heads → Filtered x ws filter → FillingRows x heads filter ws ws (x .job .n) 0
-rows-none x heads filter ws space r i k = record { filling = filling-none (x .job) ws space; ranges = r; indexed = i; filtered = k }
+pub rows-none : (x : Pass) (heads filter ws : List ℕ) (from to : ℕ) → Space (x .job) ws → Ranges x → Indexed x ws heads → Filtered x ws filter → NextRows (x .job) ws from to → FillingRows x heads filter ws ws from to to 0
+rows-none x heads filter ws from to space r i k next =
+    record { filling = filling-none (x .job) ws from to space next; below = omega arith; ranges = r; indexed = i; filtered = k }
 
-module _ (x : Pass) (heads filter ws₀ ws : List ℕ) (p after : ℕ) (i : FillingRows x heads filter ws₀ ws p after) where
-  pub rows-more : 0 < p → (len : ℕ) → RowBound (x .job) (state (x .job) ws) (p - 1) len → (ws' : List ℕ) → ws' ≡ set ws (boundsFrom (x .job) + (p - 1)) len → FillingRows x heads filter ws₀ ws' (p - 1) len
-  rows-more above len c ws' e =
+module _ (x : Pass) (heads filter ws₀ ws : List ℕ) (from to p after : ℕ) (i : FillingRows x heads filter ws₀ ws from to p after) where
+  pub rows-more : NextRows (x .job) ws₀ from to → from < p → (len : ℕ) → RowBound (x .job) (state (x .job) ws) (p - 1) len → (ws' : List ℕ) → ws' ≡ set ws (boundsFrom (x .job) + (p - 1)) len → FillingRows x heads filter ws₀ ws' from to (p - 1) len
+  rows-more next above len c ws' e =
       let kept : Kept (x .job) ws ws' = rw e (kept-set (x .job) ws (p - 1) len (omega (arith, i .filling .within))) in
       record {
-        filling = filling-more (x .job) ws₀ ws p after (i .filling) above len c ws' e;
+        filling = filling-more (x .job) ws₀ ws from p after (i .filling) to next above (i .below) len c ws' e;
+        below = omega (arith, i .below);
         ranges = i .ranges;
         indexed = indexed-kept x ws ws' heads kept (i .indexed);
         filtered = filtered-kept x ws ws' filter (i .ranges) kept (i .filtered);
       }
 
-  pub rows-all : p ≤ 0 → FilledRows x heads ws₀ ws
-  rows-all z = record { filled = filling-all (x .job) ws₀ ws p after (i .filling) z; indexed = i .indexed }
+  pub rows-all : p ≤ from → FilledStretch x heads filter ws₀ ws from
+  rows-all z = record { filled = filling-all (x .job) ws₀ ws from p after (i .filling) z; indexed = i .indexed; filtered = i .filtered }
+
+-- ---- the stretches
+pub record StretchingRows (x : Pass) (heads filter ws₀ ws : List ℕ) (from to : ℕ) : Type 0 where
+  pub stretching : Stretching (x .job) ws₀ ws from to
+  pub ranges : Ranges x
+  pub indexed : Indexed x ws heads
+  pub filtered : Filtered x ws filter
+
+pub all-none : (x : Pass) (heads filter ws : List ℕ) (end from to : ℕ) → Space (x .job) ws → Ranges x → Indexed x ws heads → Filtered x ws filter → end ≡ x .job .n → StretchBefore (state (x .job) ws .pattern) end from to → StretchingRows x heads filter ws ws from to
+all-none x heads filter ws end from to space r i k e b =
+    record { stretching = stretching-none (x .job) ws end from to space e b; ranges = r; indexed = i; filtered = k }
+
+module _ (x : Pass) (heads filter ws₀ ws : List ℕ) (from to : ℕ) (i : StretchingRows x heads filter ws₀ ws from to) where
+  pub all-next : 0 < to → NextRows (x .job) ws from to
+  all-next = stretching-next (x .job) ws₀ ws from to (i .stretching)
+
+  pub all-within : from ≤ x .job .n
+  all-within = stretching-within (x .job) ws₀ ws from to (i .stretching)
+
+  pub all-more : 0 < to → (ws' : List ℕ) → length ws' ≡ length ws → FilledStretch x heads filter ws ws' from → (from' to' : ℕ) → StretchBefore (state (x .job) ws' .pattern) from from' to' → StretchingRows x heads filter ws₀ ws' from' to'
+  all-more z ws' room f from' to' r =
+      record {
+        stretching = stretching-more (x .job) ws₀ ws from to (i .stretching) z ws' room (f .filled) from' to' r;
+        ranges = i .ranges;
+        indexed = f .indexed;
+        filtered = f .filtered;
+      }
+
+  pub all-less : 0 < to → (from' to' : ℕ) (xs : List ℕ) → StretchBefore xs from from' to' → to' < to
+  all-less = stretching-less (x .job) ws₀ ws from to (i .stretching)
+
+  pub all-rows : to ≤ 0 → FilledRows x heads ws₀ ws
+  all-rows z = record { filled = stretching-all (x .job) ws₀ ws from to (i .stretching) z; indexed = i .indexed }

@@ -12,10 +12,10 @@ use Rattle.tile.specs.declared.TextAt.{TextAt}
 use Rattle.measure.specs.Block.{counted}
 use Rattle.bounds.specs.Workspace.{state}
 use Rattle.sweep.specs.Row.{better, boundBy, before, passedOver}
-use Rattle.sweep.specs.Progress.{Filled}
+use Rattle.sweep.specs.Progress.{FilledFrom, Filled}
 use Rattle.sweep.specs.declared.Found.{Found}
 use Rattle.bounds.specs.declared.Job.{Job}
-use Rattle.index.specs.Indexed.{Indexed, patternHash, textHash, place}
+use Rattle.index.specs.Indexed.{Indexed, Filtered, patternHash, textHash, place}
 use Rattle.index.specs.declared.Pass.{Pass}
 use Rattle.rows.specs.declared.Walk.{Walk}
 
@@ -81,6 +81,12 @@ toldBy x ws last p from cap =
 unfoldable pub goesOn : Job → List ℕ → ℕ → ℕ → Bool
 goesOn j ws p t =
     ltb (before t (j .m)) (j .m) && (eqb (textHash j ws (before t (j .m))) (patternHash j ws p) && equalCalls (getD ws p 0) (getD ws (j .n + before t (j .m)) 0))
+
+-- The rows from `from` on have their bounds, and index and filter are as they were.
+pub record FilledStretch (x : Pass) (heads filter ws ws' : List ℕ) (from : ℕ) : Type 0 where
+  pub filled : FilledFrom (x .job) ws ws' from
+  pub indexed : Indexed x ws' heads
+  pub filtered : Filtered x ws' filter
 
 -- Every row has its bound, and the index is as it was.
 pub record FilledRows (x : Pass) (heads ws ws' : List ℕ) : Type 0 where

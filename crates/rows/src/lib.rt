@@ -1,6 +1,7 @@
 // Rows searched by the index. A word of the pattern is compared with one of the text in `visit` and in `goes_on`, only where two
 // windows have the same hash, and nowhere else in the fast engine.
 use bounds::Job;
+use bounds::Rows;
 use index::Pass;
 use sweep::Found;
 use tile::PatternAt;
@@ -13,10 +14,10 @@ ghost use lib.ListN.{drop, getD, set};
 ghost use Rattle.tiling.specs.Tiling.{runAt};
 ghost use Rattle.measure.specs.Block.{counted};
 ghost use Rattle.bounds.specs.Workspace.{Space, state};
-ghost use Rattle.sweep.specs.Progress.{UpperFrom, RowBound};
+ghost use Rattle.sweep.specs.Progress.{UpperFrom, RowBound, NextRows};
 ghost use Rattle.index.specs.Indexed.{Ranges, Indexed, Filtered, patternHash, textHash, place};
 ghost use Rattle.index.specs.Built.{when};
-ghost use Rattle.rows.specs.Reached.{Reached, Looked, FilledRows, Within, mayBeLonger, afterRun, visited, Begun, toldBy, goesOn};
+ghost use Rattle.rows.specs.Reached.{Reached, Looked, FilledStretch, FilledRows, Within, mayBeLonger, afterRun, visited, Begun, toldBy, goesOn};
 
 // How far the search of a row has come: what was found, the offset at which the last run that was measured ended, how often the row's
 // first word stands again right after it, and up to which position the text is passed over.
@@ -306,7 +307,32 @@ fn row_bound(
     capped(ws, pass, heads, last, p, after.t, cap)
 }
 
-// Sets the bound of each row, from the last to the first.
+// Sets the bound of each row of a stretch, from the last to the first.
+fn fill_stretch(
+    ws: &mut [u32],
+    pass: Pass,
+    heads: &[u32; 1024],
+    filter: &[u8; 4096],
+    last: &mut [u32; 1024],
+    part: Rows,
+)
+    requires { ⌜ Space (pass .job) (now ws) × Indexed pass (now ws) (now heads) × Filtered pass (now ws) (now filter) × Ranges pass × NextRows (pass .job) (now ws) (part .from .0) (part .to .0) ⌝ }
+    ensures { λ r. ⌜ FilledStretch pass (now (heads .entry)) (now (filter .entry)) (now (ws .entry)) (now (ws .exit)) (part .from .0) ⌝ }
+{
+    let mut after = Found {
+        t: TextAt(0),
+        len: 0,
+    };
+    let from = part.from.0;
+    let mut p = part.to.0;
+    while from < p {
+        p -= 1;
+        after = row_bound(ws, pass, heads, filter, last, PatternAt(p), after);
+        bounds::set_bound(ws, pass.job, PatternAt(p), after.len);
+    }
+}
+
+// Sets the bound of each free row, stretch by stretch, from the last to the first.
 pub fn fill_bounds(
     ws: &mut [u32],
     pass: Pass,
@@ -317,14 +343,9 @@ pub fn fill_bounds(
     requires { ⌜ Space (pass .job) (now ws) × Indexed pass (now ws) (now heads) × Filtered pass (now ws) (now filter) × Ranges pass ⌝ }
     ensures { λ r. ⌜ FilledRows pass (now (heads .entry)) (now (ws .entry)) (now (ws .exit)) ⌝ }
 {
-    let mut after = Found {
-        t: TextAt(0),
-        len: 0,
-    };
-    let mut p = pass.job.n;
-    while 0 < p {
-        p -= 1;
-        after = row_bound(ws, pass, heads, filter, last, PatternAt(p), after);
-        bounds::set_bound(ws, pass.job, PatternAt(p), after.len);
+    let mut part = bounds::rows_before(ws, pass.job, PatternAt(pass.job.n));
+    while 0 < part.to.0 {
+        fill_stretch(ws, pass, heads, filter, last, part);
+        part = bounds::rows_before(ws, pass.job, part.from);
     }
 }
