@@ -73,7 +73,7 @@ module _ (x : Pass) (p : ℕ) (heads ws b : List ℕ) (k : Totals) (level : ℕ)
       let h = eqb-true (f .len) level e in
       let a = in-pattern j level p ws b k f row-sweeping inside (sym read) row-searched h in
       let c = in-text j level p ws b k f row-sweeping inside (sym read) row-searched h in
-      indexed-kept x ws (laid j p (f .t .0) level ws) heads (kept-laid j ws p (f .t .0) level a c) index
+      indexed-kept x ws (laid j p (f .t .0) level ws) heads (kept-laid j ws p (f .t .0) level a c (row-sweeping .fits .space .roomy)) index
   settled false e = indexed-kept x ws (set ws (boundsFrom j + p) (f .len)) heads (kept-set j ws p (f .len) inside) index
 
   pub row-settled : (ws' : List ℕ) → ws' ≡ settledWords j level p f ws → Indexed x ws' heads
@@ -95,6 +95,9 @@ module _ (x : Pass) (heads : List ℕ) (level : ℕ) (ws₀ b₀ : List ℕ) (k�
 
   pub turning-long : p < x .job .n → x .s ≤ bound (x .job) ws p
   turning-long h = swept-long (x .job) level ws₀ b₀ k₀ ws b k bs p (i .swept) (x .s) (i .long) h
+
+  pub turning-some : 1 ≤ level
+  turning-some = omega (arith, i .ranges .one, i .long)
 
   pub turning-more : p < x .job .n → (ws' b' : List ℕ) (k' : Totals) (bs' : List ℕ) (p' : ℕ) → Sweeping (x .job) (bound (x .job) ws p) (p + 1) ws' b' k' → Onward (x .job) ws b k ws' b' k' → Covering (x .job) ws' bs' → Indexed x ws' heads → length ws' ≡ length ws → length b' ≡ length b → First (λ q. bound (x .job) ws' q ≡ level) (p + 1) (x .job .n) p' → Turning x heads level ws₀ b₀ k₀ ws' b' k' bs' p'
   turning-more h ws' b' k' bs' p' w o c index a e y =

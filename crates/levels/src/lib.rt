@@ -84,7 +84,7 @@ fn sweep_rows(
     while p.0 < pass.job.n && !sweep::at_goal(sum) {
         let turn = Turn { p, totals: sum };
         sum = step(ws, pass, heads, last, blocks, tiles, turn);
-        p = bounds::next_row(ws, pass.job, blocks, level, PatternAt(p.0 + 1));
+        p = bounds::later_row(ws, pass.job, blocks, level, p);
     }
     sum
 }

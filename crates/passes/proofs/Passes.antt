@@ -34,8 +34,8 @@ filled-built x heads filter ws ws₁ ws₂ built f =
     }
 
 module _ (x : Pass) (heads ws b : List ℕ) (k : Totals) (fits : Fits (x .job) ws b k) (ws₂ : List ℕ) (filled : FilledRows x heads ws ws₂) where
-  pub pass-ready : length ws₂ ≡ length ws → Ready (x .job) ws₂ b k
-  pass-ready room = record { fits = unmoved-fits (x .job) ws ws₂ b k (filled .filled .same) room fits; upper = filled .filled .upper }
+  pub pass-ready : Ready (x .job) ws₂ b k
+  pass-ready = record { fits = unmoved-fits (x .job) ws ws₂ b k (filled .filled .same) (filled .filled .space) fits; upper = filled .filled .upper }
 
   pub pass-over : (ws₃ b' : List ℕ) (k' : Totals) → Finished (x .job) (x .s) ws₂ b k ws₃ b' k' → Finished (x .job) (x .s) ws b k ws₃ b' k'
   pass-over = unmoved-finished (x .job) ws ws₂ b k (filled .filled .same) (x .s)

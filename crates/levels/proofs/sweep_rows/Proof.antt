@@ -4,7 +4,7 @@ use Prim.Native.Nat.{_-_}
 use borrow.Author.Tests.{not-true, not-false}
 use Rattle.chain.proofs.First.{first-rises}
 use Rattle.sweep.proofs.Turn.{few-covered, few-fillable, going-on, swept-all, swept-goal}
-use Rattle.levels.proofs.Pass.{Turning, turning-none, turning-row, turning-long, turning-more}
+use Rattle.levels.proofs.Pass.{Turning, turning-none, turning-row, turning-long, turning-some, turning-more}
 use borrow.Author.Needs.{needs}
 use Rattle.levels.proofs.sweep_rows.Statement.{statement}
 use Rattle.levels.proofs.sweep_rows.Tie as tie
@@ -27,11 +27,8 @@ at-goal-requires c κs = (search few-covered, search few-fillable)
 step-requires : tie.Need-step-requires Inv-loop μ-loop
 step-requires c κs = (search turning-row, search (going-on, not-true), search needs, search needs, search needs, search turning-long, search needs)
 
-add-t28 : tie.Need-add-t28 Inv-loop μ-loop
-add-t28 c = search needs
-
-next-row-requires-2 : tie.Need-next-row-requires-2 Inv-loop μ-loop
-next-row-requires-2 c κs = search needs
+later-row-requires : tie.Need-later-row-requires Inv-loop μ-loop
+later-row-requires c κs = (search needs, search needs, search needs, search turning-some)
 
 loop-less : tie.Need-loop-less Inv-loop μ-loop
 loop-less c = search first-rises
@@ -67,8 +64,7 @@ sweep-rows-spec =
     loop-holds
     at-goal-requires
     step-requires
-    add-t28
-    next-row-requires-2
+    later-row-requires
     loop-less
     loop-again
     same-length
