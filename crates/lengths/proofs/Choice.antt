@@ -245,9 +245,9 @@ pub left-none : (pattern : List ℕ) (minimum s : ℕ) → s ≤ minimum → 0 �
 unfolding left
 left-none pattern minimum s h = rw (left, le-leb s minimum h) refl
 
-pub left-longest : (j : Job) (ws : List ℕ) (s r : ℕ) → j .minimum < s → r ≡ longest (take (j .n - 0) (drop 0 ws)) → r ≡ left (state j ws .pattern) (j .minimum) s
+pub left-longest : (j : Job) (ws : List ℕ) (s r : ℕ) → j .minimum < s → r ≡ longest (state j ws .pattern) → r ≡ left (state j ws .pattern) (j .minimum) s
 unfolding left
-left-longest j ws s r h e = let z : j .n - 0 ≡ j .n = omega arith in rw (left, lt-leb s (j .minimum) h) (rw z at e)
+left-longest j ws s r h e = rw (left, lt-leb s (j .minimum) h) e
 
 -- Where something is left, another pass comes; and where it is below the minimum, the last pass was at the minimum or no stretch is longer.
 pub left-more : (pattern : List ℕ) (minimum s r : ℕ) → r ≡ left pattern minimum s → 1 ≤ r → minimum < s

@@ -1,15 +1,17 @@
 // The search lengths of the passes. A pass lays every tile as long as its search length, whatever that is; so they decide only
 // how long a comparison takes.
+use bounds::Job;
 use index::Pass;
+use tile::PatternAt;
 ghost use mathlib.Core.Path.{_≡_};
 ghost use mathlib.Core.Bool.{not};
 ghost use Prim.Native.Nat.{_≤_, _<_, min, max};
 ghost use lib.Dec.{eqb};
-ghost use lib.ListN.{length, replicate};
+ghost use lib.ListN.{length, drop, replicate};
 ghost use Rattle.symbol.specs.Word.{isCall};
 ghost use Rattle.tiling.specs.Tally.{one};
 ghost use Rattle.bounds.specs.Workspace.{Space, state};
-ghost use Rattle.lengths.specs.Lengths.{Marked, marks, different, worthwhile, shortLength, climbed, longerLength, atOnce, enough, firstLength, longer, longest, left, partOf};
+ghost use Rattle.lengths.specs.Lengths.{Marked, marks, different, worthwhile, shortLength, climbed, longerLength, atOnce, enough, firstLength, longer, stretch, longest, left, partOf};
 
 // The larger of two lengths.
 fn larger(a: usize, b: usize) -> usize
@@ -192,18 +194,33 @@ fn stretch_at(w: u32, after: usize) -> usize
     0
 }
 
-// The longest stretch of calls.
-fn longest_stretch(words: &[u32]) -> usize
-    requires { ⌜ length (now words) ≤ 2048 ⌝ }
-    ensures { λ r. ⌜ r ≡ longest (now (words .entry)) ⌝ }
+// The longest stretch of calls from one position on, where so many are the longest from another on, and none begins there.
+fn longest_in(words: &[u32], from: usize, to: usize, after: usize) -> usize
+    requires { ⌜ (length (now words) ≤ 2048) × (from ≤ to) × (to ≤ length (now words)) × (stretch (drop to (now words)) ≡ 0) × (after ≡ longest (drop to (now words))) ⌝ }
+    ensures { λ r. ⌜ r ≡ longest (drop from (now (words .entry))) ⌝ }
 {
-    let mut most = 0;
+    let mut most = after;
     let mut free = 0;
-    let mut i = words.len();
-    while 0 < i {
+    let mut i = to;
+    while from < i {
         i -= 1;
         free = stretch_at(words[i], free);
         most = larger(most, free);
+    }
+    most
+}
+
+// The longest stretch of calls of the pattern. Only free words are looked at, stretch by stretch, from the last to the first.
+fn longest_stretch(ws: &[u32], job: Job) -> usize
+    requires { ⌜ Space job (now ws) ⌝ }
+    ensures { λ r. ⌜ r ≡ longest (state job (now (ws .entry)) .pattern) ⌝ }
+{
+    let n = job.n;
+    let mut most = 0;
+    let mut part = bounds::rows_before(ws, job, PatternAt(n));
+    while 0 < part.to.0 {
+        most = longest_in(&ws[0..n], part.from.0, part.to.0, most);
+        part = bounds::rows_before(ws, job, part.from);
     }
     most
 }
@@ -216,8 +233,7 @@ pub fn left_of(ws: &[u32], pass: Pass) -> usize
     if pass.s <= pass.job.minimum {
         return 0;
     }
-    let n = pass.job.n;
-    longest_stretch(&ws[0..n])
+    longest_stretch(ws, pass.job)
 }
 
 // A quarter of the search length where more than two thirds of n words are covered, else half of it.
