@@ -4,18 +4,19 @@
 use Prim.Native.Nat.{ℕ, _+_, _-_, _*_, _/_, _≤_, _<_, min, max}
 use native.Mathlib.Decide.{decLt, ℕ-discrete}
 use native.Mathlib.Omega.{arith}
-use mathlib.Core.Path.{_≡_, refl, sym, _∙_}
-use mathlib.Core.Bool.{Bool, true, false}
+use mathlib.Core.Path.{_≡_, refl, sym, _∙_, ap}
 use mathlib.Core.List.{List}
-use borrow.Author.Tests.{ltb-true, lt-ltb, le-ltb}
-use lib.Dec.{ltb}
 use lib.ListN.{length, getD, set}
-use lib.Seq.{getD-set-other}
-use Rattle.bounds.specs.Workspace.{Space, bound}
+use lib.Seq.{getD-set-other, getD-take}
+use Rattle.chain.specs.First.{First, Passing}
+use Rattle.chain.specs.Chain.{Free, nextOf}
+use Rattle.chain.proofs.First.{passing-to}
+use Rattle.chain.proofs.Links.{next-above}
+use Rattle.bounds.specs.Workspace.{Space, state, bound, patternChain}
 use Rattle.bounds.specs.Greatest.{Greatest}
-use Rattle.bounds.specs.Blocks.{Tops, BlockSet, Refreshed, Covering, rowAfter, Falling}
+use Rattle.bounds.specs.Blocks.{Tops, BlockSet, Refreshed, Covering, Falling}
 use Rattle.bounds.specs.declared.Job.{Job}
-use Rattle.bounds.proofs.First.{Passing, passing-to}
+use Rattle.bounds.proofs.Workspace.{pattern-length}
 
 -- ---- setting blocks anew
 pub block-made : (j : Job) (ws : List ℕ) (b to top : ℕ) (bs bs' : List ℕ) → to ≡ min (32 * b + 32) (j .n) → Greatest (λ i. bound j ws (32 * b + i)) (to - 32 * b) top → bs' ≡ set bs b top → getD bs' b 0 ≡ top → BlockSet j ws b bs bs'
@@ -110,37 +111,56 @@ not-level j ws level p r e d z = d (e ∙ z)
 pub is-level : (j : Job) (ws : List ℕ) (level p r : ℕ) → r ≡ bound j ws p → r ≡ level → bound j ws p ≡ level
 is-level j ws level p r e k = sym e ∙ k
 
-pub row-after-block : (bs : List ℕ) (level p w b : ℕ) → w ≡ getD bs (p / 32) 0 → b ≡ p / 32 → w < level → 32 * b + 32 ≡ rowAfter bs level p
-unfolding rowAfter
-row-after-block bs level p w b e k h = let l : getD bs (p / 32) 0 < level = omega (arith, e) in rw (rowAfter, lt-ltb (getD bs (p / 32) 0) level l, k) refl
+module _ (Q : ℕ → Type 0) (j : Job) (ws : List ℕ) (level p : ℕ) (inside : p < j .n) (says : (q : ℕ) → Q q → bound j ws q ≡ level) where
+  -- The rows of p's block are below the level, and so are those of the blocks after it that were passed over.
+  pub past-blocks : (bs : List ℕ) (w b r count next : ℕ) → Covering j ws bs → w ≡ getD bs (p / 32) 0 → w < level → b ≡ p / 32 → count ≡ (j .n + 31) / 32 → First (λ c. level ≤ getD bs c 0) (b + 1) count r → next ≡ min (32 * r) (j .n) → Passing Q (p + 1) (j .n) next
+  past-blocks bs w b r count next c e low eb ec f en =
+      record {
+        least = omega (arith, f .least);
+        within = omega arith;
+        none = λ k h l z. below k h l (says k z) (decLt (p / 32) (k / 32));
+      }
+    where
+      below : (k : ℕ) → p + 1 ≤ k → k < next → bound j ws k ≡ level → Dec (p / 32 < k / 32) → ⊥
+      below k h l z (yes d) = f .none (k / 32) (omega arith) (omega arith) (omega (arith, c .most k (omega arith)))
+      below k h l z (no d) =
+          let same : k / 32 ≡ p / 32 = omega (arith, d) in
+          let most : bound j ws k ≤ getD bs (p / 32) 0 = rw same at (c .most k (omega arith)) in
+          omega arith
 
-pub row-after-one : (bs : List ℕ) (level p w : ℕ) → w ≡ getD bs (p / 32) 0 → level ≤ w → p + 1 ≡ rowAfter bs level p
-unfolding rowAfter
-row-after-one bs level p w e h = let l : level ≤ getD bs (p / 32) 0 = omega (arith, e) in rw (rowAfter, le-ltb (getD bs (p / 32) 0) level l) refl
+  -- The rows up to the next free one are covered.
+  pub past-linked : (r : ℕ) → Space j ws → 1 ≤ level → r ≡ nextOf (patternChain j ws) p → Passing Q (p + 1) (j .n) r
+  past-linked r s some e =
+      record {
+        least = omega (arith, e, next-above (patternChain j ws) p);
+        within = omega (arith, e, s .on-pattern .ranged .ahead p (omega (arith, s .on-pattern .each, long)), s .on-pattern .each, long);
+        none = λ k h l z. free k l (λ f. s .on-pattern .passed p k (omega (arith, long)) (omega arith) (omega (arith, e)) f) (says k z) (ℕ-discrete (getD ws k 0) 0);
+      }
+    where
+      long : length (state j ws .pattern) ≡ j .n
+      long = pattern-length j ws s
 
-module _ (Q : ℕ → Type 0) (j : Job) (ws bs : List ℕ) (level from p : ℕ) (covering : Covering j ws bs) (i : Passing Q from (j .n) p) (inside : p < j .n) where
-  -- It is further on, and none of the rows up to it has the level.
-  step : (c : Bool) → ltb (getD bs (p / 32) 0) level ≡ c → ((q : ℕ) → Q q → bound j ws q ≡ level) → (bound j ws p ≡ level → ⊥) → (next : ℕ) → next ≡ min (elim c [ true ↦ 32 * (p / 32) + 32 | false ↦ p + 1 ]) (j .n) → Passing Q from (j .n) next
-  step true e says d next m =
-      passing-to Q from (j .n) p i next (omega (arith, m)) (omega (arith, m))
-      (λ k a b z.
-      let same : k / 32 ≡ p / 32 = omega (arith, m) in
-      let low : getD bs (p / 32) 0 < level = ltb-true (getD bs (p / 32) 0) level e in
-      let most : bound j ws k ≤ getD bs (p / 32) 0 = rw same at (covering .most k (omega (arith, m))) in
-      omega (arith, says k z))
-  step false e says d next m =
-      passing-to Q from (j .n) p i next (omega (arith, m)) (omega (arith, m))
-      (λ k a b z. let same : k ≡ p = omega (arith, m) in d (rw same at (says k z)))
+      small : r ≤ j .n
+      small = omega (arith, e, s .on-pattern .ranged .ahead p (omega (arith, s .on-pattern .each, long)), s .on-pattern .each, long)
 
-  further : (c : Bool) → (next : ℕ) → next ≡ min (elim c [ true ↦ 32 * (p / 32) + 32 | false ↦ p + 1 ]) (j .n) → p < next
-  further true next m = omega (arith, m)
-  further false next m = omega (arith, m)
+      free : (k : ℕ) → k < r → (Free (state j ws .pattern) k → ⊥) → bound j ws k ≡ level → Dec (getD ws k 0 ≡ 0) → ⊥
+      free k l not z (yes a) = omega (arith, s .covered k (omega (arith, small)) a)
+      free k l not z (no a) = not (λ y. a (sym (getD-take (j .n) ws k 0 (omega (arith, small))) ∙ y))
 
-  module _ (r next : ℕ) (e : r ≡ rowAfter bs level p) (m : next ≡ min r (j .n)) where
-    pub passing-row : ((q : ℕ) → Q q → bound j ws q ≡ level) → (bound j ws p ≡ level → ⊥) → Passing Q from (j .n) next
-    unfolding rowAfter
-    passing-row says d = step (ltb (getD bs (p / 32) 0) level) refl says d next (m ∙ rw e refl)
+module _ (Q : ℕ → Type 0) (from n p next : ℕ) (i : Passing Q from n p) (inside : p < n) (r : Passing Q (p + 1) n next) where
+  pub past-row : (Q p → ⊥) → Passing Q from n next
+  past-row d = passing-to Q from n p i next (omega (arith, r .least)) (r .within) (λ k a b z. go k a b z (ℕ-discrete k p))
+    where
+      go : (k : ℕ) → p ≤ k → k < next → Q k → Dec (k ≡ p) → ⊥
+      go k a b z (yes e) = d (rw e at z)
+      go k a b z (no e) = r .none k (omega (arith, e)) b z
 
-    pub passing-less : j .n - next < j .n - p
-    unfolding rowAfter
-    passing-less = omega (arith, further (ltb (getD bs (p / 32) 0) level) next (m ∙ rw e refl))
+  pub past-less : n - next < n - p
+  past-less = omega (arith, r .least, r .within)
+
+-- What stands for a block, and was read.
+pub not-below : (bs : List ℕ) (level b w : ℕ) → w ≡ getD bs b 0 → w < level → level ≤ getD bs b 0 → ⊥
+not-below bs level b w e h l = omega arith
+
+pub is-above : (bs : List ℕ) (level b w : ℕ) → w ≡ getD bs b 0 → level ≤ w → level ≤ getD bs b 0
+is-above bs level b w e h = omega arith

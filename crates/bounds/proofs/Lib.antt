@@ -1,3 +1,4 @@
+pub mod Part
 pub mod Workspace
 pub mod Most
 pub mod Blocks

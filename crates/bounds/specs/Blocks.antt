@@ -1,9 +1,7 @@
 -- Blocks of 32 rows and the greatest bound of each. No reader of the engines' contracts needs these.
 use Prim.Native.Nat.{ℕ, _+_, _-_, _*_, _/_, _≤_, _<_, min}
-use mathlib.Core.Bool.{true, false}
 use mathlib.Core.Path.{_≡_}
 use mathlib.Core.List.{List}
-use lib.Dec.{ltb}
 use lib.ListN.{getD, set}
 use Rattle.bounds.specs.Workspace.{bound}
 use Rattle.bounds.specs.Greatest.{Greatest}
@@ -29,10 +27,6 @@ pub record Refreshed (j : Job) (ws : List ℕ) (from to : ℕ) (bs bs' : List �
 -- No bound of a row exceeds what stands for its block. It may be less: bounds fall before their blocks are set anew.
 pub record Covering (j : Job) (ws bs : List ℕ) : Type 0 where
   pub most : (q : ℕ) → q < j .n → bound j ws q ≤ getD bs (q / 32) 0
-
--- Where the level is above what stands for the block of row p, the first row of the next block; else the next row.
-unfoldable pub rowAfter : List ℕ → ℕ → ℕ → ℕ
-rowAfter bs level p = elim (ltb (getD bs (p / 32) 0) level) [ true ↦ 32 * (p / 32) + 32 | false ↦ p + 1 ]
 
 -- No bound rises.
 pub record Falling (j : Job) (ws ws' : List ℕ) : Type 0 where

@@ -1,12 +1,16 @@
-// The bounds of the rows of a comparison under way, which stand in its workspace, and the greatest of each block of 32 rows.
+// The workspace of a comparison under way: the chains of free words, from which rows and windows are taken; the bounds of rows, and the
+// greatest of each block of 32 rows.
 use tile::PatternAt;
+use tile::TextAt;
 ghost use mathlib.Core.Path.{_≡_};
 ghost use Prim.Native.Nat.{_+_, _-_, _*_, _/_, _≤_, _<_, min, max};
-ghost use lib.ListN.{length, getD, set};
-ghost use Rattle.bounds.specs.Workspace.{Space, boundsFrom, bound};
+ghost use lib.ListN.{length, take, drop, getD, set};
+ghost use Rattle.chain.specs.First.{First, Passing};
+ghost use Rattle.chain.specs.Chain.{nextOf, Ranged};
+ghost use Rattle.chain.specs.Stretches.{StretchBefore};
+ghost use Rattle.bounds.specs.Workspace.{Space, state, boundsFrom, bound, patternChain, marked, unlinkedIn, laid};
 ghost use Rattle.bounds.specs.Greatest.{Greatest};
-ghost use Rattle.bounds.specs.First.{First};
-ghost use Rattle.bounds.specs.Blocks.{BlockSet, Refreshed, Covering, rowAfter};
+ghost use Rattle.bounds.specs.Blocks.{BlockSet, Refreshed, Covering};
 
 // What a comparison works on: the lengths of pattern and text, the minimum, and whether the first sequence is the pattern.
 pub struct Job {
@@ -123,21 +127,44 @@ pub fn top(blocks: &[u32; 64]) -> usize
     wide(greatest(blocks))
 }
 
-// The next row that may have the level for its bound, after one that has not: where the level is above the greatest bound of
-// its block, the first of the next block.
-fn row_after(blocks: &[u32; 64], level: usize, p: usize) -> usize
-    requires { ⌜ p < 2048 ⌝ }
-    ensures { λ r. ⌜ r ≡ rowAfter (now (blocks .entry)) level p ⌝ }
+// The next block from one on, of so many, that is not below the level; their number where there is none.
+fn next_block(blocks: &[u32; 64], level: usize, from: usize, count: usize) -> usize
+    requires { ⌜ (from ≤ count) × (count ≤ 64) ⌝ }
+    ensures { λ r. ⌜ First (λ b. level ≤ getD (now (blocks .entry)) b 0) from count r ⌝ }
+{
+    let mut b = from;
+    while b < count && wide(blocks[b]) < level {
+        b += 1;
+    }
+    b
+}
+
+// The next free row after one, as the chain has it.
+fn row_linked(ws: &[u32], job: Job, p: usize) -> usize
+    requires { ⌜ Space job (now ws) × (p < job .n) ⌝ }
+    ensures { λ r. ⌜ r ≡ nextOf (patternChain job (now (ws .entry))) p ⌝ }
+{
+    let from = 3 * (job.n + job.m);
+    let to = from + job.n;
+    chain::next_of(&ws[from..to], p)
+}
+
+// A row after p up to which none has the level for its bound: where p's block is below the level, the first of the next block that is not;
+// else the next free one.
+fn row_past(ws: &[u32], job: Job, blocks: &[u32; 64], level: usize, p: usize) -> usize
+    requires { ⌜ Space job (now ws) × Covering job (now ws) (now blocks) × (1 ≤ level) × (p < job .n) ⌝ }
+    ensures { λ r. ⌜ Passing (λ q. bound job (now (ws .entry)) q ≡ level) (p + 1) (job .n) r ⌝ }
 {
     let b = p / 32;
     if wide(blocks[b]) < level {
-        return 32 * b + 32;
+        let count = (job.n + 31) / 32;
+        return buffer::lesser(32 * next_block(blocks, level, b + 1, count), job.n);
     }
-    p + 1
+    row_linked(ws, job, p)
 }
 
-// The first row from `from` on whose bound is the level, or one past the last. Blocks of rows that are below the level are
-// passed over.
+// The first row from `from` on whose bound is the level, or one past the last. Rows are taken from the chain, and blocks of rows that are
+// below the level are passed over.
 pub fn next_row(
     ws: &[u32],
     job: Job,
@@ -145,12 +172,95 @@ pub fn next_row(
     level: usize,
     from: PatternAt,
 ) -> PatternAt
-    requires { ⌜ Space job (now ws) × (from .0 ≤ job .n) × Covering job (now ws) (now blocks) ⌝ }
+    requires { ⌜ Space job (now ws) × (from .0 ≤ job .n) × Covering job (now ws) (now blocks) × (1 ≤ level) ⌝ }
     ensures { λ r. ⌜ First (λ q. bound job (now (ws .entry)) q ≡ level) (from .0) (job .n) (r .0) ⌝ }
 {
     let mut p = from.0;
     while p < job.n && bound_of(ws, job, PatternAt(p)) != level {
-        p = buffer::lesser(row_after(blocks, level, p), job.n);
+        p = row_past(ws, job, blocks, level, p);
     }
     PatternAt(p)
+}
+
+// The first row after p whose bound is the level, or one past the last.
+pub fn later_row(ws: &[u32], job: Job, blocks: &[u32; 64], level: usize, p: PatternAt) -> PatternAt
+    requires { ⌜ Space job (now ws) × (p .0 < job .n) × Covering job (now ws) (now blocks) × (1 ≤ level) ⌝ }
+    ensures { λ r. ⌜ First (λ q. bound job (now (ws .entry)) q ≡ level) (p .0 + 1) (job .n) (r .0) ⌝ }
+{
+    let from = row_past(ws, job, blocks, level, p.0);
+    next_row(ws, job, blocks, level, PatternAt(from))
+}
+
+// A stretch of free rows, and one of the text.
+pub struct Rows {
+    pub from: PatternAt,
+    pub to: PatternAt,
+}
+
+pub struct Texts {
+    pub from: TextAt,
+    pub to: TextAt,
+}
+
+// The last stretch of free words of the pattern before a position; an empty one at 0 where there is none.
+pub fn rows_before(ws: &[u32], job: Job, end: PatternAt) -> Rows
+    requires { ⌜ Space job (now ws) × (end .0 ≤ job .n) ⌝ }
+    ensures { λ r. ⌜ StretchBefore (state job (now (ws .entry)) .pattern) (end .0) (r .from .0) (r .to .0) ⌝ }
+{
+    let n = job.n;
+    let from = 3 * (n + job.m);
+    let to = from + n;
+    let part = chain::stretch_before(&ws[0..n], &ws[from..to], end.0);
+    Rows {
+        from: PatternAt(part.from),
+        to: PatternAt(part.to),
+    }
+}
+
+// The same of the text.
+pub fn text_before(ws: &[u32], job: Job, end: TextAt) -> Texts
+    requires { ⌜ Space job (now ws) × (end .0 ≤ job .m) ⌝ }
+    ensures { λ r. ⌜ StretchBefore (state job (now (ws .entry)) .text) (end .0) (r .from .0) (r .to .0) ⌝ }
+{
+    let n = job.n;
+    let all = n + job.m;
+    let from = 3 * all + n;
+    let to = 4 * all;
+    let part = chain::stretch_before(&ws[n..all], &ws[from..to], end.0);
+    Texts {
+        from: TextAt(part.from),
+        to: TextAt(part.to),
+    }
+}
+
+// Takes len words from a position on out of the chain whose entries stand in a part of the workspace.
+fn unlink_in(ws: &mut [u32], from: usize, to: usize, at: usize, len: usize)
+    requires { ⌜ (from ≤ to) × (to ≤ length (now ws)) × Ranged (take (to - from) (drop from (now ws))) × (1 ≤ len) × (at + len ≤ to - from) ⌝ }
+    ensures { λ r. ⌜ now (ws .exit) ≡ unlinkedIn from to at len (now (ws .entry)) ⌝ }
+{
+    chain::unlink(&mut ws[from..to], at, len);
+}
+
+// Marks the words of a tile on both sequences and takes them out of both chains, and clears the bounds of the rows that it covers.
+pub fn lay_tile(ws: &mut [u32], job: Job, p: PatternAt, t: TextAt, len: usize)
+    requires { ⌜ Space job (now ws) × (1 ≤ len) × (p .0 + len ≤ job .n) × (t .0 + len ≤ job .m) ⌝ }
+    ensures { λ r. ⌜ now (ws .exit) ≡ laid job (p .0) (t .0) len (now (ws .entry)) ⌝ }
+{
+    mark_tile(ws, job, p, t, len);
+    let from = 3 * (job.n + job.m);
+    let middle = from + job.n;
+    let to = 4 * (job.n + job.m);
+    unlink_in(ws, from, middle, p.0, len);
+    unlink_in(ws, middle, to, t.0, len);
+}
+
+// Marks them, and clears the bounds.
+fn mark_tile(ws: &mut [u32], job: Job, p: PatternAt, t: TextAt, len: usize)
+    requires { ⌜ Space job (now ws) × (p .0 + len ≤ job .n) × (t .0 + len ≤ job .m) ⌝ }
+    ensures { λ r. ⌜ now (ws .exit) ≡ marked job (p .0) (t .0) len (now (ws .entry)) ⌝ }
+{
+    let rows = 2 * (job.n + job.m) + p.0;
+    tile::mark_words(ws, p.0, len);
+    tile::mark_words(ws, job.n + t.0, len);
+    tile::mark_words(ws, rows, len);
 }

@@ -1,3 +1,6 @@
 pub mod First
 pub mod Last
+pub mod Entry
+pub mod Links
+pub mod Unlinking
 pub mod Stretches

@@ -11,10 +11,10 @@ use borrow.Author.Tests.{eqb-true, eqb-false, eq-eqb}
 use lib.Dec.{eqb}
 use lib.ListN.{length, getD, take, length-take}
 use lib.Seq.{getD-take}
-use Rattle.chain.specs.First.{First, Last}
+use Rattle.chain.specs.First.{First, Last, Passing}
 use Rattle.chain.specs.Chain.{Free, nextOf, beforeOf, gapBefore, Ranged, Chained}
 use Rattle.chain.specs.Stretches.{Zeros, ZeroTail, ZerosFrom, Joined, StretchBefore}
-use Rattle.chain.proofs.First.{Passing, passing-to, first-at}
+use Rattle.chain.proofs.First.{passing-to, first-at}
 use Rattle.chain.proofs.Last.{Returning, returning-to, last-at}
 
 -- ---- from a word that is not free to the next free one, and to the one before

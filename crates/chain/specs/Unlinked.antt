@@ -20,11 +20,19 @@ unfoldable pub led : ℕ → ℕ → ℕ → ℕ → List ℕ → List ℕ
 led before next b zero es = es
 led before next b (suc n) es = set (led before next b n es) (32 * (b + suc n)) (entry (32 * (b + suc n)) before next)
 
+-- The words on either side point to one another.
+abbrev pub mended : ℕ → ℕ → List ℕ → List ℕ
+mended before next es = pointedBack before next (pointedOn before next es)
+
+-- The words from `at` up to the last one lead to the same two: the first, the last, and those of blocks between.
+abbrev pub ledOut : ℕ → ℕ → ℕ → ℕ → List ℕ → List ℕ
+ledOut at last before next es =
+    led before next (at / 32) (last / 32 - at / 32) (set (set es at (entry at before next)) last (entry last before next))
+
 -- len words from position `at` on were taken out.
 unfoldable pub unlinked : ℕ → ℕ → List ℕ → List ℕ
 unlinked at len es =
     let last = at + len - 1 in
     let before = beforeOf es at in
     let next = nextOf es last in
-    led before next (at / 32) (last / 32 - at / 32)
-    (set (set (pointedBack before next (pointedOn before next es)) at (entry at before next)) last (entry last before next))
+    ledOut at last before next (mended before next es)

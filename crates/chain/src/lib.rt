@@ -4,7 +4,7 @@ ghost use Prim.Native.Nat.{_+_, _-_, _/_, _≤_, _<_};
 ghost use lib.ListN.{length, getD, set};
 ghost use Rattle.chain.specs.First.{First, Last};
 ghost use Rattle.chain.specs.Chain.{Free, gapBefore, nextOf, beforeOf, entry, Ranged, Chained};
-ghost use Rattle.chain.specs.Unlinked.{pointedOn, pointedBack, led, unlinked};
+ghost use Rattle.chain.specs.Unlinked.{pointedOn, pointedBack, led, mended, ledOut, unlinked};
 ghost use Rattle.chain.specs.Stretches.{Zeros, ZeroTail, ZerosFrom, Joined, StretchBefore};
 
 // A stretch of free words, and where it ends.
@@ -60,8 +60,8 @@ fn point_back(chain: &mut [u32], before: usize, next: usize)
     set_entry(chain, next, before, next_of(chain, next));
 }
 
-// Has the first word of each block of 32 between two positions lead out of a tile, so that the chain can be entered there.
-fn lead_out(chain: &mut [u32], at: usize, last: usize, before: usize, next: usize)
+// Has the first word of each block of 32 between two positions lead to the free words on either side, so that the chain can be entered there.
+fn lead_blocks(chain: &mut [u32], at: usize, last: usize, before: usize, next: usize)
     requires { ⌜ (last < length (now chain)) × (before ≤ at) × (at ≤ last) × (last < next) × (next ≤ 2048) ⌝ }
     ensures { λ r. ⌜ now (chain .exit) ≡ led before next (at / 32) (last / 32 - at / 32) (now (chain .entry)) ⌝ }
 {
@@ -74,8 +74,27 @@ fn lead_out(chain: &mut [u32], at: usize, last: usize, before: usize, next: usiz
     }
 }
 
-// Takes len words from position at on out of the chain: the free words on either side point to one another. The entries of the first, of the
-// last and of some between lead out to either side.
+// Has the free words on either side point to one another.
+fn mend(chain: &mut [u32], before: usize, next: usize)
+    requires { ⌜ Ranged (now chain) × (before ≤ next) × (next ≤ length (now chain)) ⌝ }
+    ensures { λ r. ⌜ now (chain .exit) ≡ mended before next (now (chain .entry)) ⌝ }
+{
+    point_on(chain, before, next);
+    point_back(chain, before, next);
+}
+
+// Has the words from one position up to another, which are taken out, lead to the free words on either side: the first, the last, and
+// those of blocks between.
+fn lead(chain: &mut [u32], at: usize, last: usize, before: usize, next: usize)
+    requires { ⌜ (last < length (now chain)) × (before ≤ at) × (at ≤ last) × (last < next) × (next ≤ 2048) ⌝ }
+    ensures { λ r. ⌜ now (chain .exit) ≡ ledOut at last before next (now (chain .entry)) ⌝ }
+{
+    set_entry(chain, at, before, next);
+    set_entry(chain, last, before, next);
+    lead_blocks(chain, at, last, before, next);
+}
+
+// Takes len words from a position on out of the chain.
 pub fn unlink(chain: &mut [u32], at: usize, len: usize)
     requires { ⌜ Ranged (now chain) × (1 ≤ len) × (at + len ≤ length (now chain)) ⌝ }
     ensures { λ r. ⌜ now (chain .exit) ≡ unlinked at len (now (chain .entry)) ⌝ }
@@ -83,11 +102,8 @@ pub fn unlink(chain: &mut [u32], at: usize, len: usize)
     let last = at + len - 1;
     let before = before_of(chain, at);
     let next = next_of(chain, last);
-    point_on(chain, before, next);
-    point_back(chain, before, next);
-    set_entry(chain, at, before, next);
-    set_entry(chain, last, before, next);
-    lead_out(chain, at, last, before, next);
+    mend(chain, before, next);
+    lead(chain, at, last, before, next);
 }
 
 // The first position of the chain from one on; the end of the sequence where there is none.

@@ -13,7 +13,7 @@ use lib.ListN.{length, getD, set}
 use Rattle.tiling.specs.Tiling.{runAt}
 use Rattle.bounds.specs.Workspace.{state, boundsFrom, bound, laid}
 use Rattle.bounds.specs.Greatest.{Greatest}
-use Rattle.bounds.specs.First.{First}
+use Rattle.chain.specs.First.{First}
 use Rattle.bounds.specs.Blocks.{Covering}
 use Rattle.sweep.specs.Settled.{pick, settledWords}
 use Rattle.sweep.specs.Goal.{atGoal}

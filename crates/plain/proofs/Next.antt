@@ -14,9 +14,9 @@ use Rattle.tiling.proofs.Leading.{leading-within}
 use Rattle.measure.specs.Before.{otherThan, before}
 use Rattle.measure.proofs.Before.{before-passes, before-found}
 use Rattle.buffer.proofs.Buffer.{tail-is}
-use Rattle.chain.specs.First.{First}
+use Rattle.chain.specs.First.{First, Passing}
 use Rattle.chain.specs.Chain.{Free}
-use Rattle.chain.proofs.First.{Passing, passing-to, first-at}
+use Rattle.chain.proofs.First.{passing-to, first-at}
 use Rattle.plain.specs.Pair.{SideBySide, Ahead}
 
 -- ---- one part

@@ -12,7 +12,7 @@ use lib.ListN.{length, getD}
 use Rattle.bounds.specs.Workspace.{state, bound}
 use Rattle.bounds.specs.Greatest.{Greatest}
 use Rattle.bounds.specs.Blocks.{Covering}
-use Rattle.bounds.specs.First.{First}
+use Rattle.chain.specs.First.{First}
 use Rattle.sweep.specs.Goal.{atGoal, untilGoal}
 use Rattle.sweep.specs.Progress.{Fits, Bounded, Onward, Sweeping, Over, Ready, Finished}
 use Rattle.bounds.specs.declared.Job.{Job}

@@ -1,11 +1,12 @@
 -- `bounds::next_row` meets its contract: at the head of each turn no row from `from` up to p has the level for its bound.
 -- Assumes nothing.
 use Prim.Native.Nat.{_-_}
-use borrow.Author.Tests.{eqb-true, eqb-false, not-true, not-false}
 use mathlib.Core.Path.{_≡_}
+use borrow.Author.Tests.{eqb-true, eqb-false, not-true, not-false}
+use Rattle.chain.specs.First.{Passing}
+use Rattle.chain.proofs.First.{passing-none, first-none, first-at}
 use Rattle.bounds.specs.Workspace.{bound}
-use Rattle.bounds.proofs.First.{Passing, passing-none, first-none, first-at}
-use Rattle.bounds.proofs.Blocks.{not-level, is-level, passing-row, passing-less}
+use Rattle.bounds.proofs.Blocks.{not-level, is-level, past-row, past-less}
 use borrow.Author.Needs.{needs}
 use Rattle.bounds.proofs.next_row.Statement.{statement}
 use Rattle.bounds.proofs.next_row.Tie as tie
@@ -22,17 +23,14 @@ loop-holds c = search passing-none
 bound-of-requires : tie.Need-bound-of-requires Inv-loop μ-loop
 bound-of-requires c κs = search needs
 
-row-after-requires : tie.Need-row-after-requires Inv-loop μ-loop
-row-after-requires c κs = search needs
-
-lesser-requires : tie.Need-lesser-requires Inv-loop μ-loop
-lesser-requires c κs = search needs
+row-past-requires : tie.Need-row-past-requires Inv-loop μ-loop
+row-past-requires c κs = search needs
 
 loop-less : tie.Need-loop-less Inv-loop μ-loop
-loop-less c = search passing-less
+loop-less c = search past-less
 
 loop-again : tie.Need-loop-again Inv-loop μ-loop
-loop-again c = search (passing-row, not-level, eqb-false, not-true)
+loop-again c = search (past-row, not-level, eqb-false, not-true)
 
 returns : tie.Need-returns Inv-loop μ-loop
 returns c = search (first-at, is-level, eqb-true, not-false)
@@ -48,8 +46,7 @@ next-row-spec =
     μ-loop
     loop-holds
     bound-of-requires
-    row-after-requires
-    lesser-requires
+    row-past-requires
     loop-less
     loop-again
     returns

@@ -4,7 +4,8 @@
 use Prim.Native.Nat.{_-_}
 use lib.ListN.{length}
 use Rattle.chain.specs.Chain.{Free}
-use Rattle.chain.proofs.First.{Passing, passing-none, first-none}
+use Rattle.chain.specs.First.{Passing}
+use Rattle.chain.proofs.First.{passing-none, first-none}
 use Rattle.chain.proofs.Stretches.{chain-on, chain-on-less, chain-found}
 use borrow.Author.Needs.{needs}
 use Rattle.chain.proofs.free_from.Statement.{statement}

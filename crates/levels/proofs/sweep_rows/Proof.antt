@@ -2,7 +2,7 @@
 -- Assumes nothing.
 use Prim.Native.Nat.{_-_}
 use borrow.Author.Tests.{not-true, not-false}
-use Rattle.bounds.proofs.First.{first-rises}
+use Rattle.chain.proofs.First.{first-rises}
 use Rattle.sweep.proofs.Turn.{few-covered, few-fillable, going-on, swept-all, swept-goal}
 use Rattle.levels.proofs.Pass.{Turning, turning-none, turning-row, turning-long, turning-more}
 use borrow.Author.Needs.{needs}

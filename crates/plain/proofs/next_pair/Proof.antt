@@ -2,7 +2,8 @@
 -- Assumes nothing.
 use Prim.Native.Nat.{_-_}
 use lib.ListN.{length}
-use Rattle.chain.proofs.First.{Passing, passing-none, first-none}
+use Rattle.chain.specs.First.{Passing}
+use Rattle.chain.proofs.First.{passing-none, first-none}
 use Rattle.plain.specs.Pair.{SideBySide}
 use Rattle.plain.proofs.Next.{pair-less, pair-ahead, pair-here}
 use borrow.Author.Needs.{needs}

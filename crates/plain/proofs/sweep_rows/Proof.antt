@@ -2,7 +2,7 @@
 -- Assumes nothing.
 use Prim.Native.Nat.{_-_}
 use borrow.Author.Tests.{not-true, not-false}
-use Rattle.bounds.proofs.First.{first-rises}
+use Rattle.chain.proofs.First.{first-rises}
 use Rattle.sweep.proofs.Turn.{few-covered, few-fillable, going-on, Swept, swept-none, swept-row, swept-more, swept-all, swept-goal}
 use borrow.Author.Needs.{needs}
 use Rattle.plain.proofs.sweep_rows.Statement.{statement}
