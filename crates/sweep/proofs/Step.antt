@@ -9,15 +9,15 @@ use native.Mathlib.Omega.{arith}
 use mathlib.Core.Path.{_≡_, refl, sym, _∙_, ap, subst}
 use mathlib.Core.Bool.{Bool, true, false}
 use mathlib.Core.List.{List, [], _∷_, _++_, map, append-assoc, map-append}
-use lib.ListN.{length, take, drop, getD, set, length-append, length-map, length-set}
-use lib.Seq.{getD-set-same, getD-set-other, getD-drop}
+use lib.ListN.{length, take, set, length-append, length-map}
+use lib.Seq.{getD-set-same, getD-set-other}
 use Rattle.symbol.specs.Word.{isCall}
 use Rattle.buffer.specs.Buffer.{onto}
-use Rattle.tiling.specs.Run.{run, mark}
+use Rattle.tiling.specs.Run.{mark}
 use Rattle.tiling.specs.Tiling.{Tile, State, runAt, best, Best, Lies, size, onPattern, lay}
 use Rattle.tiling.specs.Listing.{tileWords, covered}
 use Rattle.tiling.specs.Stretch.{fillable}
-use Rattle.tiling.proofs.Run.{zero-left, not-zero-left, mark-inside, run-most}
+use Rattle.tiling.proofs.Run.{not-zero-left, not-zero-right, mark-inside}
 use Rattle.tiling.proofs.Until.{until-goes}
 use Rattle.tiling.specs.Tally.{tally}
 use Rattle.tiling.specs.Greedy.{Greedy, more}
@@ -28,6 +28,7 @@ use Rattle.tile.specs.Listed.{listed}
 use Rattle.stretch.specs.Sides.{OnFree}
 use Rattle.tiling.proofs.Demand.{covered-append}
 use Rattle.tile.proofs.Tail.{length-listed, listed-more}
+use Rattle.chain.specs.Chain.{Free}
 use Rattle.bounds.specs.Workspace.{Space, state, boundsFrom, bound, laid}
 use Rattle.sweep.specs.Goal.{stopsAt, atGoal, stopped, untilGoal}
 use Rattle.sweep.specs.Settled.{pick, oneMore, laidTotals}
@@ -36,11 +37,8 @@ use Rattle.bounds.specs.Blocks.{Falling}
 use Rattle.bounds.specs.declared.Job.{Job}
 use Rattle.sweep.specs.declared.Found.{Found}
 use Rattle.sweep.specs.declared.Totals.{Totals}
-use Rattle.bounds.proofs.Workspace.{state-set, state-laid, space-kept, space-laid, pattern-length, text-length, bound-covered, bound-before, bound-after}
-
--- A row whose first word is marked has no run.
-run-zero : (ps ts : List ℕ) → getD ps 0 0 ≡ 0 → run ps ts ≡ 0
-run-zero ps ts e = omega (arith, run-most ps ts 0 (rw e (zero-left (getD ts 0 0))))
+use Rattle.sweep.proofs.Bounds.{marked-row}
+use Rattle.bounds.proofs.Workspace.{state-set, state-laid, space-bound, space-laid, pattern-length, text-length, bound-covered, bound-before, bound-after}
 
 -- No run exceeds the level.
 pub below-level : (j : Job) (ws : List ℕ) (level p : ℕ) → Space j ws → Bounded j ws level p → (q t : ℕ) → runAt (state j ws) q t ≤ level
@@ -59,6 +57,10 @@ module _ (j : Job) (level p : ℕ) (ws b : List ℕ) (k : Totals) (f : Found) (s
   pub found-small : f .len ≤ 2048
   found-small = r .small
 
+  -- It has a bound, so it is free.
+  free-row : Free ws p
+  free-row z = omega (arith, s .fits .space .covered p inside z, s .long, s .fits .least)
+
   -- ---- a shorter run is the row's new bound
   module _ (short : f .len ≡ level → ⊥) where
     lowered : Sweeping j level (p + 1) (set ws (boundsFrom j + p) (f .len)) b k
@@ -66,7 +68,7 @@ module _ (j : Job) (level p : ℕ) (ws b : List ℕ) (k : Totals) (f : Found) (s
         record {
           fits =
               record {
-                space = space-kept j ws (set ws (boundsFrom j + p) (f .len)) (length-set ws (boundsFrom j + p) (f .len)) (state-set j ws p (f .len)) (s .fits .space);
+                space = space-bound j ws p (f .len) inside free-row (s .fits .space);
                 least = s .fits .least;
                 most = s .fits .most;
                 tile-room = s .fits .tile-room;
@@ -166,7 +168,7 @@ module _ (j : Job) (level p : ℕ) (ws b : List ℕ) (k : Totals) (f : Found) (s
 
     -- ---- its room
     after-state : state j (laid j p (f .t .0) level ws) ≡ lay (state j ws) next
-    after-state = state-laid j ws p (f .t .0) level in-pattern in-text
+    after-state = state-laid j ws p (f .t .0) level in-pattern in-text (s .fits .space .roomy)
 
     -- It takes its words from the free calls of the pattern.
     free-after : k .covered + level + tally isCall (take (j .n) (laid j p (f .t .0) level ws)) ≤ j .n
@@ -195,6 +197,12 @@ module _ (j : Job) (level p : ℕ) (ws b : List ℕ) (k : Totals) (f : Found) (s
           free = λ i h. not-zero-left _ _ (next-lies .matching i h);
         }
 
+    text-free : (i : ℕ) → i < level → Free (state j ws .text) (f .t .0 + i)
+    text-free i h = not-zero-right _ _ (next-lies .matching i h)
+
+    pub some-words : 1 ≤ level
+    some-words = omega (arith, s .long, s .fits .least)
+
     -- And its numbers fit their types.
     few-covered : k .covered + level ≤ 2048
     few-covered = omega (arith, free-after, s .fits .space .short-pattern)
@@ -220,11 +228,7 @@ module _ (j : Job) (level p : ℕ) (ws b : List ℕ) (k : Totals) (f : Found) (s
     -- A row that the tile covers has no run any more: its first word is marked.
     covered-row : (q t : ℕ) → p ≤ q → q < p + level → runAt (lay (state j ws) next) q t ≡ 0
     unfolding lay
-    covered-row q t h l =
-        let marked = mark p level (state j ws .pattern) in
-        let e : q + 0 ≡ q = omega arith in
-        run-zero (drop q marked) (drop t (lay (state j ws) next .text))
-        (getD-drop q marked 0 0 ∙ rw e (mark-inside p level (state j ws .pattern) q h l))
+    covered-row q t h l = marked-row (lay (state j ws) next) q t (mark-inside p level (state j ws .pattern) q h l)
 
     upper-after : (q t : ℕ) → q < j .n → runAt (lay (state j ws) next) q t ≤ bound j (laid j p (f .t .0) level ws) q
     upper-after q t h = go (decLt q p) (decLt q (p + level))
@@ -233,25 +237,25 @@ module _ (j : Job) (level p : ℕ) (ws b : List ℕ) (k : Totals) (f : Found) (s
         kept e = omega (arith, e, lay-shrinks (state j ws) next q t, s .bounded .upper q t h)
 
         go : Dec (q < p) → Dec (q < p + level) → runAt (lay (state j ws) next) q t ≤ bound j (laid j p (f .t .0) level ws) q
-        go (yes l) d = kept (bound-before j ws p (f .t .0) level q in-pattern in-text l)
+        go (yes l) d = kept (bound-before j ws p (f .t .0) level in-pattern in-text (s .fits .space .roomy) q l)
         go (no l) (yes m) = omega (arith, covered-row q t (omega (arith, l)) m)
-        go (no l) (no m) = kept (bound-after j ws p (f .t .0) level q in-pattern in-text (omega (arith, m)))
+        go (no l) (no m) = kept (bound-after j ws p (f .t .0) level in-pattern in-text (s .fits .space .roomy) q h (omega (arith, m)))
 
     -- No bound rises.
-    bound-falls : (q : ℕ) → bound j (laid j p (f .t .0) level ws) q ≤ bound j ws q
-    bound-falls q = go (decLt q p) (decLt q (p + level))
+    bound-falls : (q : ℕ) → q < j .n → bound j (laid j p (f .t .0) level ws) q ≤ bound j ws q
+    bound-falls q h = go (decLt q p) (decLt q (p + level))
       where
         go : Dec (q < p) → Dec (q < p + level) → bound j (laid j p (f .t .0) level ws) q ≤ bound j ws q
-        go (yes l) d = omega (arith, bound-before j ws p (f .t .0) level q in-pattern in-text l)
-        go (no l) (yes m) = omega (arith, bound-covered j ws p (f .t .0) level q (omega (arith, l)) m)
-        go (no l) (no m) = omega (arith, bound-after j ws p (f .t .0) level q in-pattern in-text (omega (arith, m)))
+        go (yes l) d = omega (arith, bound-before j ws p (f .t .0) level in-pattern in-text (s .fits .space .roomy) q l)
+        go (no l) (yes m) = omega (arith, bound-covered j ws p (f .t .0) level in-pattern in-text (s .fits .space .roomy) q h (omega (arith, l)) m)
+        go (no l) (no m) = omega (arith, bound-after j ws p (f .t .0) level in-pattern in-text (s .fits .space .roomy) q h (omega (arith, m)))
 
     passed-after : (q : ℕ) → q < p + 1 → bound j (laid j p (f .t .0) level ws) q < level
     passed-after q h = go (decLt q p)
       where
         go : Dec (q < p) → bound j (laid j p (f .t .0) level ws) q < level
-        go (yes l) = omega (arith, bound-falls q, s .bounded .passed q l)
-        go (no l) = omega (arith, bound-covered j ws p (f .t .0) level q (omega (arith, l)) (omega (arith, s .long, s .fits .least)), s .long, s .fits .least)
+        go (yes l) = omega (arith, bound-falls q (omega arith), s .bounded .passed q l)
+        go (no l) = omega (arith, bound-covered j ws p (f .t .0) level in-pattern in-text (s .fits .space .roomy) q (omega arith) (omega (arith, l)) (omega (arith, s .long, s .fits .least)), s .long, s .fits .least)
 
     module _ (b' : List ℕ) (e : b' ≡ oneMore j k next b) where
       abbrev k' : Totals
@@ -263,7 +267,7 @@ module _ (j : Job) (level p : ℕ) (ws b : List ℕ) (k : Totals) (f : Found) (s
           record {
             fits =
                 record {
-                  space = space-laid j ws p (f .t .0) level in-pattern in-text (s .fits .space);
+                  space = space-laid j ws p (f .t .0) level in-pattern in-text (omega (arith, s .long, s .fits .least)) (s .fits .space) (on-free .free) text-free;
                   least = s .fits .least;
                   most = s .fits .most;
                   tile-room = λ t. rw (same-room (k .goal .listed) refl) (s .fits .tile-room t);
@@ -274,7 +278,7 @@ module _ (j : Job) (level p : ℕ) (ws b : List ℕ) (k : Totals) (f : Found) (s
             bounded =
                 record {
                   upper = λ q t h. subst (λ u. runAt u q t ≤ bound j (laid j p (f .t .0) level ws) q) (sym after-state) (upper-after q t h);
-                  capped = λ q h. omega (arith, bound-falls q, s .bounded .capped q h);
+                  capped = λ q h. omega (arith, bound-falls q h, s .bounded .capped q h);
                   passed = passed-after;
                 };
             long = s .long;
@@ -326,7 +330,7 @@ module _ (j : Job) (level p : ℕ) (ws b : List ℕ) (k : Totals) (f : Found) (s
       -- The same of a workspace and a record that were made so.
       module _ (ws' : List ℕ) (w : ws' ≡ laid j p (f .t .0) level ws) where
         pub stepped-falls : Falling j ws ws'
-        stepped-falls = record { falls = λ q h. rw w (bound-falls q) }
+        stepped-falls = record { falls = λ q h. rw w (bound-falls q h) }
 
         module _ (sum : Totals) (is : sum ≡ k') where
           pub stepped-sweep : Sweeping j level (p + 1) ws' b' sum

@@ -9,7 +9,7 @@ use mathlib.Core.Path.{_≡_, refl, sym, _∙_, ap, subst}
 use mathlib.Core.Bool.{Bool, true, false}
 use mathlib.Core.List.{List, _++_}
 use lib.ListN.{length, getD}
-use Rattle.bounds.specs.Workspace.{state, bound}
+use Rattle.bounds.specs.Workspace.{Space, state, bound}
 use Rattle.bounds.specs.Greatest.{Greatest}
 use Rattle.bounds.specs.Blocks.{Covering}
 use Rattle.chain.specs.First.{First}
@@ -25,7 +25,7 @@ use Rattle.tiling.specs.Greedy.{Greedy}
 use Rattle.tiling.proofs.Best.{best-is}
 use Rattle.sweep.proofs.Step.{below-level}
 use Rattle.bounds.proofs.Blocks.{covering-top}
-use Rattle.bounds.proofs.Workspace.{space-kept, pattern-length}
+use Rattle.bounds.proofs.Workspace.{pattern-length}
 use Rattle.stretch.proofs.Fillable.{fillable-most}
 
 pub onward-none : (j : Job) (ws b : List ℕ) (k : Totals) → Onward j ws b k ws b k
@@ -36,10 +36,10 @@ onward-more j ws₀ b₀ ws b ws' b' k₀ k k' x y = record { keeps = λ s c l. 
 
 -- ---- where the sequences are as they were
 module _ (j : Job) (ws ws' b : List ℕ) (k : Totals) (same : state j ws' ≡ state j ws) where
-  pub unmoved-fits : length ws' ≡ length ws → Fits j ws b k → Fits j ws' b k
-  unmoved-fits e f =
+  pub unmoved-fits : Space j ws' → Fits j ws b k → Fits j ws' b k
+  unmoved-fits space f =
       record {
-        space = space-kept j ws ws' e same (f .space);
+        space = space;
         least = f .least;
         most = f .most;
         tile-room = f .tile-room;

@@ -13,6 +13,7 @@ use Rattle.tiling.specs.Stretch.{fillable}
 use Rattle.tiling.specs.Until.{Far, unlaid}
 use Rattle.tiling.specs.Greedy.{Greedy}
 use Rattle.tile.specs.Listed.{listed}
+use Rattle.chain.specs.Chain.{Free}
 use Rattle.bounds.specs.Workspace.{Space, state, bound}
 use Rattle.sweep.specs.Goal.{atGoal, untilGoal}
 use Rattle.sweep.specs.Settled.{pick}
@@ -90,7 +91,21 @@ pub record RowBound (j : Job) (s : State) (p len : ℕ) : Type 0 where
   pub most : (u : ℕ) → runAt s p u ≤ len
   pub within : p + len ≤ j .n
 
--- The bounds were filled, and the sequences are as they were.
+-- The rows from `from` up to `to` are free, and are those to be filled next: all after them have their bounds, and the row at `to` has no run.
+pub record NextRows (j : Job) (ws : List ℕ) (from to : ℕ) : Type 0 where
+  pub ordered : from ≤ to
+  pub within : to ≤ j .n
+  pub free : (k : ℕ) → from ≤ k → k < to → Free (state j ws .pattern) k
+  pub none : RowBound j (state j ws) to 0
+  pub upper : UpperFrom j ws to
+
+-- The bounds of the rows from `from` on were filled, and the sequences are as they were.
+pub record FilledFrom (j : Job) (ws ws' : List ℕ) (from : ℕ) : Type 0 where
+  pub same : state j ws' ≡ state j ws
+  pub space : Space j ws'
+  pub upper : UpperFrom j ws' from
+
+-- All bounds were, and the sequences are as they were.
 pub record Filled (j : Job) (ws ws' : List ℕ) : Type 0 where
   pub same : state j ws' ≡ state j ws
   pub space : Space j ws'

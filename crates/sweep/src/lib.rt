@@ -187,17 +187,6 @@ pub fn taken_over(after: TextAt, s: usize, cap: usize) -> bool
     (after.0 == 0) & (2 * s <= cap) & (cap & (cap - 1) != 0)
 }
 
-// Marks the words of a tile on both sequences, and clears the bounds of the rows that it covers.
-fn lay_tile(ws: &mut [u32], job: Job, p: PatternAt, t: TextAt, len: usize)
-    requires { ⌜ Space job (now ws) × (p .0 + len ≤ job .n) × (t .0 + len ≤ job .m) ⌝ }
-    ensures { λ r. ⌜ now (ws .exit) ≡ laid job (p .0) (t .0) len (now (ws .entry)) ⌝ }
-{
-    let rows = 2 * (job.n + job.m) + p.0;
-    tile::mark_words(ws, p.0, len);
-    tile::mark_words(ws, job.n + t.0, len);
-    tile::mark_words(ws, rows, len);
-}
-
 // How many fewer words of the pattern further tiles may take after one of len words at p.
 fn taken_by(ws: &[u32], job: Job, p: PatternAt, len: usize) -> usize
     requires { ⌜ Space job (now ws) × OnFree (job .minimum) (p .0) len (state job (now ws) .pattern) ⌝ }
@@ -216,7 +205,7 @@ fn lay_next(ws: &mut [u32], job: Job, p: PatternAt, t: TextAt, len: usize, total
 {
     let goal = totals.goal;
     let taken = taken_by(ws, job, p, len);
-    lay_tile(ws, job, p, t, len);
+    bounds::lay_tile(ws, job, p, t, len);
     Totals {
         count: totals.count + 1,
         covered: totals.covered + len,
