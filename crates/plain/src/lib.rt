@@ -1,5 +1,6 @@
 // The plain engine: any pair of positions may be looked at, and no hash.
 use bounds::Job;
+use bounds::Rows;
 use sweep::Found;
 use sweep::Goal;
 use sweep::Round;
@@ -22,7 +23,7 @@ ghost use Rattle.chain.specs.First.{First};
 ghost use Rattle.chain.specs.Chain.{Free, Chained};
 ghost use Rattle.bounds.specs.Blocks.{Covering, Falling};
 ghost use Rattle.sweep.specs.Goal.{atGoal};
-ghost use Rattle.sweep.specs.Progress.{Fits, Searched, UpperFrom, RowBound, Filled, Ready, Sweeping, Over, Onward, Finished};
+ghost use Rattle.sweep.specs.Progress.{Fits, Searched, UpperFrom, RowBound, NextRows, FilledFrom, Filled, Ready, Sweeping, Over, Onward, Finished};
 ghost use Rattle.ends.specs.Result.{Room, Ran};
 ghost use Rattle.plain.specs.Promise.{Plain};
 ghost use Rattle.plain.specs.Bounds.{Capped, goesOn};
@@ -239,20 +240,33 @@ fn row_bound(ws: &[u32], job: Job, last: &mut usize, p: PatternAt, after: Found)
     capped(ws, job, last, p, after.t, cap)
 }
 
-// Sets the bound of each row, from the last to the first.
-fn fill_bounds(ws: &mut [u32], job: Job, last: &mut usize)
-    requires { ⌜ Space job (now ws) × (1 ≤ job .minimum) × (job .minimum ≤ 256) ⌝ }
-    ensures { λ r. ⌜ Filled job (now (ws .entry)) (now (ws .exit)) ⌝ }
+// Sets the bound of each row of a stretch, from the last to the first.
+fn fill_stretch(ws: &mut [u32], job: Job, last: &mut usize, part: Rows)
+    requires { ⌜ Space job (now ws) × NextRows job (now ws) (part .from .0) (part .to .0) × (1 ≤ job .minimum) × (job .minimum ≤ 256) ⌝ }
+    ensures { λ r. ⌜ FilledFrom job (now (ws .entry)) (now (ws .exit)) (part .from .0) ⌝ }
 {
     let mut after = Found {
         t: TextAt(0),
         len: 0,
     };
-    let mut p = job.n;
-    while 0 < p {
+    let from = part.from.0;
+    let mut p = part.to.0;
+    while from < p {
         p -= 1;
         after = row_bound(ws, job, last, PatternAt(p), after);
         bounds::set_bound(ws, job, PatternAt(p), after.len);
+    }
+}
+
+// Sets the bound of each free row, stretch by stretch, from the last to the first. The others have no run.
+fn fill_bounds(ws: &mut [u32], job: Job, last: &mut usize)
+    requires { ⌜ Space job (now ws) × (1 ≤ job .minimum) × (job .minimum ≤ 256) ⌝ }
+    ensures { λ r. ⌜ Filled job (now (ws .entry)) (now (ws .exit)) ⌝ }
+{
+    let mut part = bounds::rows_before(ws, job, PatternAt(job.n));
+    while 0 < part.to.0 {
+        fill_stretch(ws, job, last, part);
+        part = bounds::rows_before(ws, job, part.from);
     }
 }
 
@@ -333,7 +347,7 @@ fn sweep_rows(
     let mut p = bounds::next_row(ws, job, blocks, level, PatternAt(0));
     while p.0 < job.n && !sweep::at_goal(sum) {
         sum = step(ws, job, last, blocks, p, tiles, sum);
-        p = bounds::next_row(ws, job, blocks, level, PatternAt(p.0 + 1));
+        p = bounds::later_row(ws, job, blocks, level, p);
     }
     sum
 }
