@@ -85,3 +85,22 @@ some-most f m u h e l = lt-ltb (firstOf f 0 (m - 0)) 2048 (omega (arith, first-m
 
 pub some-same : (f g : ℕ → Bool) (from n : ℕ) → ((i : ℕ) → from ≤ i → i < from + n → f i ≡ g i) → someOf f from n ≡ someOf g from n
 some-same f g from n same = rw (first-same f g from n same) refl
+
+-- ---- numbers that do not pass may be left out
+module _ (f : ℕ → Bool) (m : ℕ) where
+  skip : (d a : ℕ) → a + d ≤ m → ((i : ℕ) → a ≤ i → i < a + d → f i ≡ false) → firstOf f a (m - a) ≡ firstOf f (a + d) (m - (a + d))
+  skip zero a h none = let e : a + 0 ≡ a = omega arith in rw e refl
+  skip (suc d) a h none =
+      let e : a + suc d ≡ a + 1 + d = omega arith in
+      rw e
+      (next-later f a m (omega arith) (none a (omega arith) (omega arith))
+      ∙ skip d (a + 1) (omega arith) (λ i k l. none i (omega arith) (omega arith)))
+
+  module _ (a b : ℕ) (low : a ≤ b) (high : b ≤ m) (none : (i : ℕ) → a ≤ i → i < b → f i ≡ false) where
+    pub next-skip : firstOf f a (m - a) ≡ firstOf f b (m - b)
+    next-skip =
+        let e : a + (b - a) ≡ b = omega arith in
+        rw e at (skip (b - a) a (omega arith) (λ i k l. none i k (omega arith)))
+
+    pub some-skip : someOf f a (m - a) ≡ someOf f b (m - b)
+    some-skip = rw next-skip refl

@@ -1,19 +1,19 @@
--- What the search does to the workspace keeps the index: bounds and marked words lie outside hashes and links, and every claim of the
+-- What the search does to the workspace keeps the index: bounds, marked words and chains lie outside hashes and links, and every claim of the
 -- index is about runs, which only shrink.
 -- Assumes nothing.
-use Prim.Native.Nat.{ℕ, _+_, _≤_, _<_}
+use Prim.Native.Nat.{ℕ, _+_, _*_, _≤_, _<_}
 use native.Mathlib.Omega.{arith}
 use mathlib.Core.Path.{_≡_, sym, _∙_, subst}
 use mathlib.Core.List.{List}
-use lib.ListN.{take, drop, getD, set, length-take, length-drop}
+use lib.ListN.{length, take, drop, getD, set, length-take, length-drop}
 use lib.Seq.{getD-set-other}
 use Rattle.tiling.specs.Run.{mark}
 use Rattle.tiling.specs.Tiling.{State, runAt}
 use Rattle.tiling.proofs.Run.{run-within, mark-before, mark-after}
 use Rattle.tiling.proofs.Marked.{lay-shrinks}
-use Rattle.bounds.specs.Workspace.{state, boundsFrom, laid}
+use Rattle.bounds.specs.Workspace.{state, boundsFrom, chainsFrom, marked, laid}
 use Rattle.bounds.specs.declared.Job.{Job}
-use Rattle.bounds.proofs.Workspace.{state-set, state-laid}
+use Rattle.bounds.proofs.Workspace.{state-set, below-chains, state-laid}
 use Rattle.index.specs.Indexed.{patternHash, textHash, link, Ranges, Indexed, Filtered}
 use Rattle.index.specs.declared.Pass.{Pass}
 
@@ -76,18 +76,21 @@ kept-set j ws p v h =
       linked = λ t l. getD-set-other ws (boundsFrom j + p) (boundsFrom j + j .n + t) v 0 (λ e. omega arith);
     }
 
--- A tile.
-pub kept-laid : (j : Job) (ws : List ℕ) (p t len : ℕ) → p + len ≤ j .n → t + len ≤ j .m → Kept j ws (laid j p t len ws)
-kept-laid j ws p t len h l =
+-- A tile: its words are marked and taken out of the chains, which stand past the links.
+pub kept-laid : (j : Job) (ws : List ℕ) (p t len : ℕ) → p + len ≤ j .n → t + len ≤ j .m → 4 * (j .n + j .m) ≤ length ws → Kept j ws (laid j p t len ws)
+kept-laid j ws p t len h l room =
     record {
-      shrinks = λ q u. subst (λ (z : State). runAt z q u ≤ runAt (state j ws) q u) (sym (state-laid j ws p t len h l)) (lay-shrinks (state j ws) (record { p = p; t = t; len = len }) q u);
-      on-pattern = λ q b. mark-before (boundsFrom j + p) len ws₂ (j .n + j .m + q) (omega arith) ∙ past (j .n + j .m + q) (omega arith);
-      on-text = λ u b. mark-before (boundsFrom j + p) len ws₂ (j .n + j .m + j .n + u) (omega arith) ∙ past (j .n + j .m + j .n + u) (omega arith);
-      linked = λ u b. mark-after (boundsFrom j + p) len ws₂ (boundsFrom j + j .n + u) (omega arith) ∙ past (boundsFrom j + j .n + u) (omega arith);
+      shrinks = λ q u. subst (λ (z : State). runAt z q u ≤ runAt (state j ws) q u) (sym (state-laid j ws p t len h l room)) (lay-shrinks (state j ws) (record { p = p; t = t; len = len }) q u);
+      on-pattern = λ q b. below (j .n + j .m + q) (omega arith) ∙ (mark-before (boundsFrom j + p) len ws₂ (j .n + j .m + q) (omega arith) ∙ past (j .n + j .m + q) (omega arith));
+      on-text = λ u b. below (j .n + j .m + j .n + u) (omega arith) ∙ (mark-before (boundsFrom j + p) len ws₂ (j .n + j .m + j .n + u) (omega arith) ∙ past (j .n + j .m + j .n + u) (omega arith));
+      linked = λ u b. below (boundsFrom j + j .n + u) (omega arith) ∙ (mark-after (boundsFrom j + p) len ws₂ (boundsFrom j + j .n + u) (omega arith) ∙ past (boundsFrom j + j .n + u) (omega arith));
     }
   where
     ws₂ : List ℕ
     ws₂ = mark (j .n + t) len (mark p len ws)
+
+    below : (a : ℕ) → a < chainsFrom j → getD (laid j p t len ws) a 0 ≡ getD (marked j p t len ws) a 0
+    below = below-chains j ws p t len h l room
 
     past : (a : ℕ) → j .n + j .m ≤ a → getD ws₂ a 0 ≡ getD ws a 0
     past a b = mark-after (j .n + t) len (mark p len ws) a (omega arith) ∙ mark-after p len ws a (omega arith)

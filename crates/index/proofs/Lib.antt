@@ -2,5 +2,9 @@ pub mod Bucket
 pub mod First
 pub mod Kept
 pub mod Free
+pub mod Parts
+pub mod Stretches
+pub mod Rows
 pub mod Linking
+pub mod Texts
 pub mod Windows

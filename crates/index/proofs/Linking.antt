@@ -1,6 +1,5 @@
--- One position after another, from right to left. The entries of the pattern's windows are set first. Then the head of a bucket is its first
--- linked window from here on; so a link that takes it over is the next one after this, and where the window at t is free and the pattern has
--- its entry it becomes the head.
+-- One position of the text after another, from right to left. The head of a bucket is its first linked window from here on; so a link that
+-- takes it over is the next one after this, and where the window at t is free and the pattern has its entry it becomes the head.
 -- Assumes nothing.
 use Prim.Native.Nat.{ℕ, _+_, _-_, _≤_, _<_}
 use native.Mathlib.Decide.{decLt, ℕ-discrete}
@@ -11,53 +10,52 @@ use mathlib.Core.List.{List}
 use borrow.Author.Tests.{lt-ltb, le-leb, lt-leb, eq-eqb, ne-eqb}
 use lib.Dec.{leb, ltb, eqb}
 use Rattle.symbol.proofs.Word.{and-right}
-use lib.ListN.{length, getD, set, replicate, getD-replicate, List·getD-eq-default}
-use lib.Seq.{getD-set-same, getD-set-other}
+use lib.ListN.{length, drop, getD, set, List·getD-eq-default}
+use lib.Seq.{getD-set-same, getD-set-other, drop-set-lt}
+use Rattle.tiling.specs.Stretch.{freeFirst}
+use Rattle.tiling.specs.Tiling.{State}
 use Rattle.window.specs.Hash.{bucket}
-use Rattle.bounds.specs.Workspace.{Space, state, boundsFrom}
+use Rattle.bounds.specs.Workspace.{Space, state, boundsFrom, chainsFrom}
 use Rattle.bounds.specs.declared.Job.{Job}
 use Rattle.bounds.proofs.Workspace.{state-set, space-kept}
 use Rattle.index.specs.Indexed.{patternHash, textHash, link, slot, Ranges}
-use Rattle.index.specs.Built.{freeAt, raisedFrom, listed, inBucket, nextIn, linkedFrom, entryOf, Raised, takes, Entered, Linked}
+use Rattle.index.specs.Built.{freeAt, raises, raisedFrom, listed, inBucket, nextIn, linkedFrom, entryOf, takes, Entered, LinkedFrom, Linked}
 use Rattle.index.specs.declared.Pass.{Pass}
 use Rattle.index.proofs.Bucket.{bucket-below, slot-below}
-use Rattle.index.proofs.First.{first-least, first-same, next-here, next-later, next-none, some-none, some-here, some-later, some-same}
-use Rattle.index.proofs.Free.{free-end, free-same}
+use Rattle.index.proofs.First.{first-least, first-same, next-here, next-later, some-here, some-later, some-same}
+use Rattle.index.proofs.Free.{free-same}
 
--- ---- the pattern's windows
-pub record Raising (j : Job) (ws fs : List ℕ) (p : ℕ) : Type 0 where
-  pub within : p ≤ j .n
-  pub entries : (i : ℕ) → i < 4096 → getD fs i 0 ≡ entryOf (raisedFrom j ws i p) false
+-- ---- what is linked is told by words and hashes
+module _ (x : Pass) (ws ws' hs fs : List ℕ) (t : ℕ) (same : state (x .job) ws' ≡ state (x .job) ws) (on-pattern : (p : ℕ) → p < x .job .n → patternHash (x .job) ws' p ≡ patternHash (x .job) ws p) (on-text : (u : ℕ) → t ≤ u → u < x .job .m → textHash (x .job) ws' u ≡ textHash (x .job) ws u) where
+  same-raises : (k q : ℕ) → q < x .job .n → raises x ws k q ≡ raises x ws' k q
+  same-raises k q l =
+      ap (λ (z : State). leb (x .s) (freeFirst (drop q (z .pattern))) && eqb (slot (patternHash (x .job) ws q)) k) (sym same)
+      ∙ rw (on-pattern q l) refl
 
-pub raising-none : (j : Job) (ws fs : List ℕ) → fs ≡ replicate 4096 0 → Raising j ws fs (j .n)
-raising-none j ws fs fresh =
-    record {
-      within = omega arith;
-      entries = λ i l. rw (some-none (λ q. eqb (slot (patternHash j ws q)) i) (j .n), fresh) (getD-replicate {A = ℕ} 4096 i 0 0 l);
-    }
+  same-raised : (k : ℕ) → raisedFrom x ws k 0 ≡ raisedFrom x ws' k 0
+  same-raised k = some-same (raises x ws k) (raises x ws' k) 0 (x .job .n - 0) (λ q a l. same-raises k q (omega arith))
 
-module _ (j : Job) (ws fs : List ℕ) (p : ℕ) (r : Raising j ws fs p) where
-  pub raising-more : 0 < p → Space j ws → (h k : ℕ) (fs' : List ℕ) → h ≡ patternHash j ws (p - 1) → k ≡ slot h → fs' ≡ set fs k 1 → getD fs' k 0 ≡ 1 → Raising j ws fs' (p - 1)
-  raising-more above space h k fs' eh ek ef here = record { within = omega (arith, r .within); entries = λ i l. entries i l (ℕ-discrete i k) }
-    where
-      test : ℕ → ℕ → Bool
-      test i q = eqb (slot (patternHash j ws q)) i
+  same-listed : (u : ℕ) → t ≤ u → u < x .job .m → listed x ws u ≡ listed x ws' u
+  same-listed u a l = rw (free-same (x .job) ws ws' u same, on-text u a l, same-raised (slot (textHash (x .job) ws u))) refl
 
-      back : p - 1 + 1 ≡ p
-      back = omega arith
+  same-next : (b u : ℕ) → t ≤ u → nextIn x ws b u ≡ nextIn x ws' b u
+  same-next b u a =
+      first-same (inBucket x ws b) (inBucket x ws' b) u (x .job .m - u)
+      (λ k c l. let z : k < x .job .m = omega arith in let y : t ≤ k = omega arith in rw (same-listed k y z, on-text k y z) refl)
 
-      at : slot (patternHash j ws (p - 1)) ≡ k
-      at = ap slot (sym eh) ∙ sym ek
+  same-linked : (k : ℕ) → linkedFrom x ws k t ≡ linkedFrom x ws' k t
+  same-linked k =
+      some-same (λ u. listed x ws u && eqb (slot (textHash (x .job) ws u)) k) (λ u. listed x ws' u && eqb (slot (textHash (x .job) ws' u)) k) t (x .job .m - t)
+      (λ u a l. let z : u < x .job .m = omega arith in rw (same-listed u a z, on-text u a z) refl)
 
-      entries : (i : ℕ) → i < 4096 → Dec (i ≡ k) → getD fs' i 0 ≡ entryOf (raisedFrom j ws i (p - 1)) false
-      entries i l (yes e) =
-          rw (e, some-here (test k) (p - 1) (j .n) (omega (arith, r .within)) (space .short-pattern) (eq-eqb (slot (patternHash j ws (p - 1))) k at)) here
-      entries i l (no d) =
-          rw (some-later (test i) (p - 1) (j .n) (omega (arith, r .within)) (ne-eqb (slot (patternHash j ws (p - 1))) i (λ z. d (sym z ∙ at))), back, ef)
-          (getD-set-other fs k i 1 0 d ∙ r .entries i l)
-
-  pub raising-all : p ≤ 0 → Raised j ws fs
-  raising-all h = let e : p ≡ 0 = omega arith in record { entries = rw e at (r .entries) }
+  pub linked-same : t ≤ x .job .m → ((b : ℕ) → b < 1024 → getD hs b 0 ≡ nextIn x ws b t) → ((u : ℕ) → t ≤ u → u < x .job .m → listed x ws u ≡ true → link (x .job) ws' u ≡ nextIn x ws (bucket (x .buckets) (textHash (x .job) ws u)) (u + 1)) → ((i : ℕ) → i < 4096 → getD fs i 0 ≡ entryOf (raisedFrom x ws i 0) (linkedFrom x ws i t)) → LinkedFrom x ws' hs fs t
+  linked-same within heads links entries =
+      record {
+        within = within;
+        heads = λ b l. heads b l ∙ same-next b t (omega arith);
+        links = λ u a l y. rw (on-text u a l) (links u a l (same-listed u a l ∙ y) ∙ same-next (bucket (x .buckets) (textHash (x .job) ws u)) (u + 1) (omega arith));
+        entries = λ k l. entries k l ∙ rw (same-raised k, same-linked k) refl;
+      }
 
 -- ---- one window, as the code goes through it
 pub entered-busy : (x : Pass) (t free : ℕ) (ws hs fs : List ℕ) → free < x .s → Entered x t free ws hs fs ws hs fs
@@ -80,8 +78,9 @@ module _ (x : Pass) (t free : ℕ) (ws hs fs : List ℕ) (long : x .s ≤ free) 
       let c : b ≡ bucket (x .buckets) (textHash (x .job) ws t) = eb ∙ ap (bucket (x .buckets)) eh in
       record { words = rw (k, ← c) ew; heads = rw (k, ← c) eh'; filter = rw (k, ← eh) ef'; known = λ y. rw (← eh) known }
 
--- ---- all of them
-pub record Backward (x : Pass) (ws₀ ws hs fs : List ℕ) (t free : ℕ) : Type 0 where
+-- ---- the windows of a stretch that begins at `from`
+pub record Backward (x : Pass) (from : ℕ) (ws₀ ws hs fs : List ℕ) (t free : ℕ) : Type 0 where
+  pub low : from ≤ t
   pub within : t ≤ x .job .m
   pub ranges : Ranges x
   pub space : Space (x .job) ws
@@ -91,27 +90,24 @@ pub record Backward (x : Pass) (ws₀ ws hs fs : List ℕ) (t free : ℕ) : Type
   pub on-text : (u : ℕ) → u < x .job .m → textHash (x .job) ws u ≡ textHash (x .job) ws₀ u
   pub heads : (b : ℕ) → b < 1024 → getD hs b 0 ≡ nextIn x ws₀ b t
   pub links : (u : ℕ) → t ≤ u → u < x .job .m → listed x ws₀ u ≡ true → link (x .job) ws u ≡ nextIn x ws₀ (bucket (x .buckets) (textHash (x .job) ws₀ u)) (u + 1)
-  pub before : (u : ℕ) → u < t → link (x .job) ws u ≡ link (x .job) ws₀ u
-  pub others : (u : ℕ) → t ≤ u → u < x .job .m → listed x ws₀ u ≡ false → link (x .job) ws u ≡ link (x .job) ws₀ u
-  pub entries : (i : ℕ) → i < 4096 → getD fs i 0 ≡ entryOf (raisedFrom (x .job) ws₀ i 0) (linkedFrom x ws₀ i t)
+  pub entries : (i : ℕ) → i < 4096 → getD fs i 0 ≡ entryOf (raisedFrom x ws₀ i 0) (linkedFrom x ws₀ i t)
   pub count : free ≡ freeAt (x .job) ws t
 
-pub backward-none : (x : Pass) (ws hs fs : List ℕ) → Space (x .job) ws → Ranges x → hs ≡ replicate 1024 2048 → Raised (x .job) ws fs → Backward x ws ws hs fs (x .job .m) 0
-backward-none x ws hs fs space ranges fresh raised =
+pub backward-none : (x : Pass) (from : ℕ) (ws hs fs : List ℕ) (t : ℕ) → Space (x .job) ws → Ranges x → from ≤ t → 0 ≡ freeAt (x .job) ws t → LinkedFrom x ws hs fs t → Backward x from ws ws hs fs t 0
+backward-none x from ws hs fs t space ranges low none r =
     record {
-      within = omega arith;
+      low = low;
+      within = r .within;
       ranges = ranges;
       space = space;
       room = refl;
       same = refl;
       on-pattern = λ p l. refl;
       on-text = λ u l. refl;
-      heads = λ b l. rw fresh (getD-replicate {A = ℕ} 1024 b 2048 0 l) ∙ sym (next-none (inBucket x ws b) (x .job .m));
-      links = λ u a b. absurd (omega arith);
-      before = λ u l. refl;
-      others = λ u a b. absurd (omega arith);
-      entries = λ i l. rw (some-none (λ u. listed x ws u && eqb (slot (textHash (x .job) ws u)) i) (x .job .m)) (raised .entries i l);
-      count = free-end (x .job) ws;
+      heads = r .heads;
+      links = r .links;
+      entries = r .entries;
+      count = none;
     }
 
 -- An entry is above 0 just where the pattern has a window with it.
@@ -121,7 +117,7 @@ entry-some true false = refl
 entry-some true true = refl
 
 -- The step to position t, where the windows from the next one on are linked.
-module _ (x : Pass) (ws₀ ws hs fs : List ℕ) (t after free : ℕ) (i : Backward x ws₀ ws hs fs (t + 1) after) (inside : t < x .job .m) (f : free ≡ freeAt (x .job) ws t) (ws' hs' fs' : List ℕ) (e : Entered x t free ws hs fs ws' hs' fs') where
+module _ (x : Pass) (from : ℕ) (ws₀ ws hs fs : List ℕ) (t after free : ℕ) (i : Backward x from ws₀ ws hs fs (t + 1) after) (low : from ≤ t) (inside : t < x .job .m) (f : free ≡ freeAt (x .job) ws t) (ws' hs' fs' : List ℕ) (e : Entered x t free ws hs fs ws' hs' fs') where
   abbrev j : Job
   j = x .job
 
@@ -150,7 +146,7 @@ module _ (x : Pass) (ws₀ ws hs fs : List ℕ) (t after free : ℕ) (i : Backwa
   taken : takes x free (getD fs (slot h) 0) ≡ listed x ws₀ t
   taken =
       let a : free ≡ freeAt j ws₀ t = f ∙ free-same j ws₀ ws t (i .same) in
-      rw (i .entries (slot h) (slot-below h), entry-some (raisedFrom j ws₀ (slot h) 0) (linkedFrom x ws₀ (slot h) (t + 1)), a, same-hash) refl
+      rw (i .entries (slot h) (slot-below h), entry-some (raisedFrom x ws₀ (slot h) 0) (linkedFrom x ws₀ (slot h) (t + 1)), a, same-hash) refl
 
   long-heads : b < length hs
   long-heads = go (decLt b (length hs))
@@ -172,17 +168,14 @@ module _ (x : Pass) (ws₀ ws hs fs : List ℕ) (t after free : ℕ) (i : Backwa
     not-entering : (k : ℕ) → entering k t ≡ false
     not-entering k = rw no-link refl
 
-    still-others : (u : ℕ) → t ≤ u → u < j .m → Dec (u ≡ t) → listed x ws₀ u ≡ false → link j ws u ≡ link j ws₀ u
-    still-others u a l (yes k) z = i .before u (omega (arith, k))
-    still-others u a l (no k) z = i .others u (omega (arith, k)) l z
-
     still-links : (u : ℕ) → t ≤ u → u < j .m → Dec (u ≡ t) → listed x ws₀ u ≡ true → link j ws u ≡ nextIn x ws₀ (bucket (x .buckets) (textHash j ws₀ u)) (u + 1)
     still-links u a l (yes k) z = absurd (let o : _≡_ {A = ℕ} 0 1 = (let g : false ≡ true = sym no-link ∙ (ap (listed x ws₀) (sym k) ∙ z) in cc) in omega arith)
     still-links u a l (no k) z = i .links u (omega (arith, k)) l z
 
-    skipped : Backward x ws₀ ws hs fs t free
+    skipped : Backward x from ws₀ ws hs fs t free
     skipped =
         record {
+          low = low;
           within = omega arith;
           ranges = i .ranges;
           space = i .space;
@@ -192,13 +185,11 @@ module _ (x : Pass) (ws₀ ws hs fs : List ℕ) (t after free : ℕ) (i : Backwa
           on-text = i .on-text;
           heads = λ c l. i .heads c l ∙ sym (next-later (inBucket x ws₀ c) t (j .m) inside (not-in c));
           links = λ u a l. still-links u a l (ℕ-discrete u t);
-          before = λ u l. i .before u (omega arith);
-          others = λ u a l. still-others u a l (ℕ-discrete u t);
           entries = λ k l. rw (some-later (entering k) t (j .m) inside (not-entering k)) (i .entries k l);
           count = f;
         }
 
-    pub step-skipped : Backward x ws₀ ws' hs' fs' t free
+    pub step-skipped : Backward x from ws₀ ws' hs' fs' t free
     step-skipped = rw (e .words, e .heads, e .filter, not-taken) skipped
 
   -- ---- one that is linked becomes the head of its bucket
@@ -225,10 +216,6 @@ module _ (x : Pass) (ws₀ ws hs fs : List ℕ) (t after free : ℕ) (i : Backwa
     links u a l (yes k) z = rw k link-here
     links u a l (no k) z = elsewhere (boundsFrom j + j .n + u) (λ y. k (omega arith)) ∙ i .links u (omega (arith, k)) l z
 
-    others : (u : ℕ) → t ≤ u → u < j .m → Dec (u ≡ t) → listed x ws₀ u ≡ false → link j ws' u ≡ link j ws₀ u
-    others u a l (yes k) z = absurd (let o : _≡_ {A = ℕ} 0 1 = (let g : false ≡ true = sym z ∙ (ap (listed x ws₀) k ∙ linked) in cc) in omega arith)
-    others u a l (no k) z = elsewhere (boundsFrom j + j .n + u) (λ y. k (omega arith)) ∙ i .others u (omega (arith, k)) l z
-
     this-bucket : inBucket x ws₀ b t ≡ true
     this-bucket = rw (linked, eq-eqb (bucket (x .buckets) (textHash j ws₀ t)) b (sym same-bucket)) refl
 
@@ -241,8 +228,8 @@ module _ (x : Pass) (ws₀ ws hs fs : List ℕ) (t after free : ℕ) (i : Backwa
         rw new-heads (getD-set-other hs b c t 0 d ∙ (i .heads c l ∙ sym (next-later (inBucket x ws₀ c) t (j .m) inside (other-bucket c d))))
 
     -- The pattern has a window with its entry.
-    raised : raisedFrom j ws₀ (slot h) 0 ≡ true
-    raised = rw same-hash (and-right (leb (x .s) (freeAt j ws₀ t)) (raisedFrom j ws₀ (slot (textHash j ws₀ t)) 0) linked)
+    raised : raisedFrom x ws₀ (slot h) 0 ≡ true
+    raised = rw same-hash (and-right (leb (x .s) (freeAt j ws₀ t)) (raisedFrom x ws₀ (slot (textHash j ws₀ t)) 0) linked)
 
     this-entry : entering (slot h) t ≡ true
     this-entry = rw (linked, eq-eqb (slot (textHash j ws₀ t)) (slot h) (ap slot (sym same-hash))) refl
@@ -250,7 +237,7 @@ module _ (x : Pass) (ws₀ ws hs fs : List ℕ) (t after free : ℕ) (i : Backwa
     other-entry : (k : ℕ) → (k ≡ slot h → ⊥) → entering k t ≡ false
     other-entry k d = rw (linked, ne-eqb (slot (textHash j ws₀ t)) k (λ z. d (sym z ∙ ap slot (sym same-hash)))) refl
 
-    entries : (k : ℕ) → k < 4096 → Dec (k ≡ slot h) → getD fs' k 0 ≡ entryOf (raisedFrom j ws₀ k 0) (linkedFrom x ws₀ k t)
+    entries : (k : ℕ) → k < 4096 → Dec (k ≡ slot h) → getD fs' k 0 ≡ entryOf (raisedFrom x ws₀ k 0) (linkedFrom x ws₀ k t)
     entries k l (yes d) = rw (d, raised, some-here (entering (slot h)) t (j .m) inside (i .space .short-text) this-entry) (e .known is-taken)
     entries k l (no d) = rw (filter, some-later (entering k) t (j .m) inside (other-entry k d)) (getD-set-other fs (slot h) k 2 0 d ∙ i .entries k l)
 
@@ -259,33 +246,35 @@ module _ (x : Pass) (ws₀ ws hs fs : List ℕ) (t after free : ℕ) (i : Backwa
         let k : at ≡ boundsFrom j + (j .n + t) = omega arith in
         rw (words, k) (state-set j ws (j .n + t) (getD hs b 0))
 
-    pub step-linked : length ws' ≡ length ws → Backward x ws₀ ws' hs' fs' t free
+    tail-linked : drop (chainsFrom j) ws' ≡ drop (chainsFrom j) ws
+    tail-linked = rw words (drop-set-lt (chainsFrom j) ws at (getD hs b 0) (omega arith))
+
+    pub step-linked : length ws' ≡ length ws → Backward x from ws₀ ws' hs' fs' t free
     step-linked same =
         record {
+          low = low;
           within = omega arith;
           ranges = i .ranges;
-          space = space-kept j ws ws' same state-linked (i .space);
+          space = space-kept j ws ws' same state-linked tail-linked (λ q l. elsewhere (boundsFrom j + q) (λ y. omega arith)) (i .space);
           room = same ∙ i .room;
           same = state-linked ∙ i .same;
           on-pattern = λ p l. elsewhere (j .n + j .m + p) (λ z. omega arith) ∙ i .on-pattern p l;
           on-text = λ u l. elsewhere (j .n + j .m + j .n + u) (λ z. omega arith) ∙ i .on-text u l;
           heads = λ c l. heads c l (ℕ-discrete c b);
           links = λ u a l. links u a l (ℕ-discrete u t);
-          before = λ u l. elsewhere (boundsFrom j + j .n + u) (λ y. omega arith) ∙ i .before u (omega arith);
-          others = λ u a l. others u a l (ℕ-discrete u t);
           entries = λ k l. entries k l (ℕ-discrete k (slot h));
           count = f ∙ sym (free-same j ws ws' t state-linked);
         }
 
-  pub stepped : length ws' ≡ length ws → Backward x ws₀ ws' hs' fs' t free
+  pub stepped : length ws' ≡ length ws → Backward x from ws₀ ws' hs' fs' t free
   stepped same = go (listed x ws₀ t) refl
     where
-      go : (c : Bool) → listed x ws₀ t ≡ c → Backward x ws₀ ws' hs' fs' t free
+      go : (c : Bool) → listed x ws₀ t ≡ c → Backward x from ws₀ ws' hs' fs' t free
       go true z = step-linked z same
       go false z = step-skipped z
 
-module _ (x : Pass) (ws₀ ws hs fs : List ℕ) (t free : ℕ) (i : Backward x ws₀ ws hs fs t free) where
-  module _ (some : 0 < t) where
+module _ (x : Pass) (from : ℕ) (ws₀ ws hs fs : List ℕ) (t free : ℕ) (i : Backward x from ws₀ ws hs fs t free) where
+  module _ (some : from < t) where
     back : t - 1 + 1 ≡ t
     back = omega arith
 
@@ -295,40 +284,18 @@ module _ (x : Pass) (ws₀ ws hs fs : List ℕ) (t free : ℕ) (i : Backward x w
     pub backward-free : free ≡ freeAt (x .job) ws (t - 1 + 1)
     backward-free = rw back (i .count)
 
-    pub backward-more : (r : ℕ) → r ≡ freeAt (x .job) ws (t - 1) → (ws' hs' fs' : List ℕ) → Entered x (t - 1) r ws hs fs ws' hs' fs' → length ws' ≡ length ws → Backward x ws₀ ws' hs' fs' (t - 1) r
+    pub backward-more : (r : ℕ) → r ≡ freeAt (x .job) ws (t - 1) → (ws' hs' fs' : List ℕ) → Entered x (t - 1) r ws hs fs ws' hs' fs' → length ws' ≡ length ws → Backward x from ws₀ ws' hs' fs' (t - 1) r
     backward-more r f ws' hs' fs' e same =
-        let now : Backward x ws₀ ws hs fs (t - 1 + 1) free = rw back i in
-        stepped x ws₀ ws hs fs (t - 1) free r now backward-inside f ws' hs' fs' e same
+        let now : Backward x from ws₀ ws hs fs (t - 1 + 1) free = rw back i in
+        stepped x from ws₀ ws hs fs (t - 1) free r now (omega arith) backward-inside f ws' hs' fs' e same
 
-  -- What is linked is told by the words and hashes, which are as they were.
-  same-raised : (k : ℕ) → raisedFrom (x .job) ws₀ k 0 ≡ raisedFrom (x .job) ws k 0
-  same-raised k =
-      some-same (λ q. eqb (slot (patternHash (x .job) ws₀ q)) k) (λ q. eqb (slot (patternHash (x .job) ws q)) k) 0 (x .job .n - 0)
-      (λ q a l. rw (i .on-pattern q (omega arith)) refl)
-
-  same-listed : (u : ℕ) → u < x .job .m → listed x ws₀ u ≡ listed x ws u
-  same-listed u l = rw (free-same (x .job) ws₀ ws u (i .same), i .on-text u l, same-raised (slot (textHash (x .job) ws₀ u))) refl
-
-  same-next : (b u : ℕ) → nextIn x ws₀ b u ≡ nextIn x ws b u
-  same-next b u =
-      first-same (inBucket x ws₀ b) (inBucket x ws b) u (x .job .m - u)
-      (λ k a l. let z : k < x .job .m = omega arith in rw (same-listed k z, i .on-text k z) refl)
-
-  same-linked : (k : ℕ) → linkedFrom x ws₀ k 0 ≡ linkedFrom x ws k 0
-  same-linked k =
-      some-same (λ u. listed x ws₀ u && eqb (slot (textHash (x .job) ws₀ u)) k) (λ u. listed x ws u && eqb (slot (textHash (x .job) ws u)) k) 0 (x .job .m - 0)
-      (λ u a l. let z : u < x .job .m = omega arith in rw (same-listed u z, i .on-text u z) refl)
-
-  pub backward-all : t ≤ 0 → Linked x ws₀ ws hs fs
+  pub backward-all : t ≤ from → Linked x ws₀ ws hs fs from
   backward-all none =
-      let z : t ≡ 0 = omega arith in
+      let z : from ≡ t = omega (arith, i .low) in
       record {
         space = i .space;
         same = i .same;
         on-pattern = i .on-pattern;
         on-text = i .on-text;
-        heads = λ b l. i .heads b l ∙ (ap (nextIn x ws₀ b) z ∙ same-next b 0);
-        links = λ u l y. rw (i .on-text u l) (i .links u (omega arith) l (same-listed u l ∙ y) ∙ same-next (bucket (x .buckets) (textHash (x .job) ws₀ u)) (u + 1));
-        others = λ u l y. i .others u (omega arith) l (same-listed u l ∙ y);
-        entries = λ k l. i .entries k l ∙ (ap (λ v. entryOf (raisedFrom (x .job) ws₀ k 0) (linkedFrom x ws₀ k v)) z ∙ rw (same-raised k, same-linked k) refl);
+        linked = rw z (linked-same x ws₀ ws hs fs t (i .same) (i .on-pattern) (λ u k l. i .on-text u l) (i .within) (i .heads) (i .links) (i .entries));
       }

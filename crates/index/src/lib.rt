@@ -1,15 +1,17 @@
-// The index of a pass: the hash of each window, and for each bucket the positions of the text whose windows fall into it, in
-// rising order. Only windows of the text are linked whose hash the pattern may have.
+// The index of a pass: the hash of each free window, and for each bucket the positions of the text whose windows fall into it, in
+// rising order. Only windows of the text are linked whose hash the pattern may have. Windows are found by the chains of free words.
 use bounds::Job;
+use bounds::Rows;
+use bounds::Texts;
 use tile::PatternAt;
 use tile::TextAt;
 ghost use mathlib.Core.Path.{_≡_};
-ghost use Prim.Native.Nat.{_+_, _≤_, _<_};
+ghost use Prim.Native.Nat.{ℕ, _+_, _-_, _≤_, _<_};
 ghost use lib.ListN.{length, getD, set, replicate};
 ghost use Rattle.window.specs.Hash.{bucket};
-ghost use Rattle.bounds.specs.Workspace.{Space, boundsFrom};
+ghost use Rattle.bounds.specs.Workspace.{Space, state, boundsFrom};
 ghost use Rattle.index.specs.Indexed.{patternHash, textHash, link, slot, place, Ranges};
-ghost use Rattle.index.specs.Built.{freeAt, Raised, Entered, Linked, Built};
+ghost use Rattle.index.specs.Built.{freeAt, AllFree, weightOf, PartHashed, Stretched, RaisedFrom, RowsFrom, Entered, LinkedFrom, Linked, TextsFrom, Built};
 
 // A pass of the search: the comparison, the search length s, and how windows are hashed.
 pub struct Pass {
@@ -76,7 +78,7 @@ pub fn first_text(heads: &[u32; 1024], bucket: usize) -> TextAt
     TextAt(bounds::wide(heads[bucket]))
 }
 
-// The entry of the filter for a hash: 0 where the pattern has no window with that entry, 1 where it has one, and 2 where a
+// The entry of the filter for a hash: 0 where the pattern has no free window with that entry, 1 where it has one, and 2 where a
 // window of the text is linked that has it too.
 pub fn entry_of(filter: &[u8; 4096], h: u32) -> u8
     ensures { λ r. ⌜ r ≡ getD (now (filter .entry)) (slot h) 0 ⌝ }
@@ -92,16 +94,69 @@ fn put(filter: &mut [u8], at: usize, value: u8)
     filter[at] = value;
 }
 
-// Sets the entry of each window of the pattern, from right to left.
-fn raise_rows(ws: &[u32], job: Job, filter: &mut [u8; 4096])
-    requires { ⌜ Space job (now ws) × (now filter ≡ replicate 4096 0) ⌝ }
-    ensures { λ r. ⌜ Raised job (now (ws .entry)) (now (filter .exit)) ⌝ }
+// Hashes the windows of some of the words of the two sequences, which stand side by side.
+fn hash_part(ws: &mut [u32], pass: Pass, weight: u32, from: usize, count: usize)
+    requires { ⌜ Space (pass .job) (now ws) × Ranges pass × (weight ≡ weightOf pass) × (pass .s ≤ count) × (from + count ≤ pass .job .n + pass .job .m) ⌝ }
+    ensures { λ r. ⌜ PartHashed pass from count (now (ws .entry)) (now (ws .exit)) ⌝ }
 {
-    let mut p = job.n;
-    while 0 < p {
+    let words = pass.job.n + pass.job.m;
+    window::hash_windows(
+        &mut ws[from..],
+        count,
+        words,
+        weight,
+        pass.multiplier,
+        pass.s,
+    );
+}
+
+// Sets the entries of the pattern's windows from one position up to another, from right to left.
+fn raise_rows(ws: &[u32], pass: Pass, from: PatternAt, to: PatternAt, filter: &mut [u8; 4096])
+    requires { ⌜ Space (pass .job) (now ws) × (from .0 ≤ to .0) × ((q : ℕ) → from .0 ≤ q → q < to .0 → AllFree (pass .s) (state (pass .job) (now ws) .pattern) q) × RaisedFrom pass (now ws) (now filter) (to .0) ⌝ }
+    ensures { λ r. ⌜ RaisedFrom pass (now (ws .entry)) (now (filter .exit)) (from .0) ⌝ }
+{
+    let mut p = to.0;
+    while from.0 < p {
         p -= 1;
-        let h = pattern_hash(ws, job, PatternAt(p));
+        let h = pattern_hash(ws, pass.job, PatternAt(p));
         put(filter, slot_of(h), 1);
+    }
+}
+
+// Hashes the windows of a stretch of the pattern, which is long enough for one, and sets their entries.
+fn enter_rows(ws: &mut [u32], pass: Pass, weight: u32, part: Rows, filter: &mut [u8; 4096])
+    requires { ⌜ Ranges pass × (weight ≡ weightOf pass) × Stretched (state (pass .job) (now ws) .pattern) (part .from .0) (part .to .0) × (pass .s ≤ part .to .0 - part .from .0) × RowsFrom pass (now ws) (now filter) (part .to .0) ⌝ }
+    ensures { λ r. ⌜ state (pass .job) (now (ws .exit)) ≡ state (pass .job) (now (ws .entry)) ⌝ }
+    ensures { λ r. ⌜ RowsFrom pass (now (ws .exit)) (now (filter .exit)) (part .from .0) ⌝ }
+{
+    let from = part.from.0;
+    let to = part.to.0;
+    hash_part(ws, pass, weight, from, to - from);
+    raise_rows(ws, pass, part.from, PatternAt(to + 1 - pass.s), filter);
+}
+
+// Hashes the windows of a stretch of the pattern and sets their entries; where the stretch is too short it has none.
+fn hash_row_stretch(ws: &mut [u32], pass: Pass, weight: u32, part: Rows, filter: &mut [u8; 4096])
+    requires { ⌜ Ranges pass × (weight ≡ weightOf pass) × Stretched (state (pass .job) (now ws) .pattern) (part .from .0) (part .to .0) × RowsFrom pass (now ws) (now filter) (part .to .0) ⌝ }
+    ensures { λ r. ⌜ state (pass .job) (now (ws .exit)) ≡ state (pass .job) (now (ws .entry)) ⌝ }
+    ensures { λ r. ⌜ RowsFrom pass (now (ws .exit)) (now (filter .exit)) (part .from .0) ⌝ }
+{
+    if part.to.0 - part.from.0 < pass.s {
+        return;
+    }
+    enter_rows(ws, pass, weight, part, filter);
+}
+
+// Hashes the windows of the pattern that are free, stretch by stretch, and sets their entries.
+fn hash_rows(ws: &mut [u32], pass: Pass, weight: u32, filter: &mut [u8; 4096])
+    requires { ⌜ Space (pass .job) (now ws) × Ranges pass × (weight ≡ weightOf pass) × (now filter ≡ replicate 4096 0) ⌝ }
+    ensures { λ r. ⌜ state (pass .job) (now (ws .exit)) ≡ state (pass .job) (now (ws .entry)) ⌝ }
+    ensures { λ r. ⌜ RowsFrom pass (now (ws .exit)) (now (filter .exit)) 0 ⌝ }
+{
+    let mut part = bounds::rows_before(ws, pass.job, PatternAt(pass.job.n));
+    while 0 < part.to.0 {
+        hash_row_stretch(ws, pass, weight, part, filter);
+        part = bounds::rows_before(ws, pass.job, part.from);
     }
 }
 
@@ -161,28 +216,90 @@ fn link_window(
     enter(heads, filter, bucket, h, t);
 }
 
-// Links the text's windows by bucket, from right to left, so that each chain rises.
-fn link_windows(ws: &mut [u32], pass: Pass, heads: &mut [u32; 1024], filter: &mut [u8; 4096])
-    requires { ⌜ Space (pass .job) (now ws) × Ranges pass × (now heads ≡ replicate 1024 2048) × Raised (pass .job) (now ws) (now filter) ⌝ }
-    ensures { λ r. ⌜ Linked pass (now (ws .entry)) (now (ws .exit)) (now (heads .exit)) (now (filter .exit)) ⌝ }
+// Links the windows of a stretch of the text, from right to left.
+fn link_stretch(
+    ws: &mut [u32],
+    pass: Pass,
+    part: Texts,
+    heads: &mut [u32; 1024],
+    filter: &mut [u8; 4096],
+)
+    requires { ⌜ Space (pass .job) (now ws) × Ranges pass × (part .from .0 ≤ part .to .0) × (0 ≡ freeAt (pass .job) (now ws) (part .to .0)) × LinkedFrom pass (now ws) (now heads) (now filter) (part .to .0) ⌝ }
+    ensures { λ r. ⌜ Linked pass (now (ws .entry)) (now (ws .exit)) (now (heads .exit)) (now (filter .exit)) (part .from .0) ⌝ }
 {
+    let from = part.from.0;
     let mut free = 0;
-    let mut t = pass.job.m;
-    while 0 < t {
+    let mut t = part.to.0;
+    while from < t {
         t -= 1;
         free = free_from(ws, pass.job, TextAt(t), free);
         link_window(ws, pass, TextAt(t), free, heads, filter);
     }
 }
 
-// Hashes every window of s words, and links those of the text by bucket that are free and whose hash the pattern may have. Every
-// head must be 2,048, past every text, and every entry of the filter 0.
+// Hashes and links the windows of a stretch of the text, which is long enough for one.
+fn enter_texts(
+    ws: &mut [u32],
+    pass: Pass,
+    weight: u32,
+    part: Texts,
+    heads: &mut [u32; 1024],
+    filter: &mut [u8; 4096],
+)
+    requires { ⌜ Ranges pass × (weight ≡ weightOf pass) × Stretched (state (pass .job) (now ws) .text) (part .from .0) (part .to .0) × (pass .s ≤ part .to .0 - part .from .0) × TextsFrom pass (now ws) (now heads) (now filter) (part .to .0) ⌝ }
+    ensures { λ r. ⌜ state (pass .job) (now (ws .exit)) ≡ state (pass .job) (now (ws .entry)) ⌝ }
+    ensures { λ r. ⌜ TextsFrom pass (now (ws .exit)) (now (heads .exit)) (now (filter .exit)) (part .from .0) ⌝ }
+{
+    let from = part.from.0;
+    hash_part(ws, pass, weight, pass.job.n + from, part.to.0 - from);
+    link_stretch(ws, pass, part, heads, filter);
+}
+
+// Hashes and links the windows of a stretch of the text; where the stretch is too short it has none.
+fn link_text_stretch(
+    ws: &mut [u32],
+    pass: Pass,
+    weight: u32,
+    part: Texts,
+    heads: &mut [u32; 1024],
+    filter: &mut [u8; 4096],
+)
+    requires { ⌜ Ranges pass × (weight ≡ weightOf pass) × Stretched (state (pass .job) (now ws) .text) (part .from .0) (part .to .0) × TextsFrom pass (now ws) (now heads) (now filter) (part .to .0) ⌝ }
+    ensures { λ r. ⌜ state (pass .job) (now (ws .exit)) ≡ state (pass .job) (now (ws .entry)) ⌝ }
+    ensures { λ r. ⌜ TextsFrom pass (now (ws .exit)) (now (heads .exit)) (now (filter .exit)) (part .from .0) ⌝ }
+{
+    if part.to.0 - part.from.0 < pass.s {
+        return;
+    }
+    enter_texts(ws, pass, weight, part, heads, filter);
+}
+
+// Hashes and links the text's windows that are free, stretch by stretch, from right to left, so that each chain rises.
+fn link_windows(
+    ws: &mut [u32],
+    pass: Pass,
+    weight: u32,
+    heads: &mut [u32; 1024],
+    filter: &mut [u8; 4096],
+)
+    requires { ⌜ Ranges pass × (weight ≡ weightOf pass) × (now heads ≡ replicate 1024 2048) × RowsFrom pass (now ws) (now filter) 0 ⌝ }
+    ensures { λ r. ⌜ state (pass .job) (now (ws .exit)) ≡ state (pass .job) (now (ws .entry)) ⌝ }
+    ensures { λ r. ⌜ TextsFrom pass (now (ws .exit)) (now (heads .exit)) (now (filter .exit)) 0 ⌝ }
+{
+    let mut part = bounds::text_before(ws, pass.job, TextAt(pass.job.m));
+    while 0 < part.to.0 {
+        link_text_stretch(ws, pass, weight, part, heads, filter);
+        part = bounds::text_before(ws, pass.job, part.from);
+    }
+}
+
+// Hashes every free window of s words, and links those of the text by bucket whose hash the pattern may have. Windows are taken from
+// the stretches of free words. Every head must be 2,048, past every text, and every entry of the filter 0.
 pub fn build(ws: &mut [u32], pass: Pass, heads: &mut [u32; 1024], filter: &mut [u8; 4096])
     requires { ⌜ Space (pass .job) (now ws) × Ranges pass × (now heads ≡ replicate 1024 2048) × (now filter ≡ replicate 4096 0) ⌝ }
     ensures { λ r. ⌜ Built pass (now (ws .entry)) (now (ws .exit)) (now (heads .exit)) (now (filter .exit)) ⌝ }
 {
-    let words = pass.job.n + pass.job.m;
-    window::hash_windows(ws, words, pass.multiplier, pass.s);
-    raise_rows(ws, pass.job, filter);
-    link_windows(ws, pass, heads, filter);
+    let weight = window::power(pass.multiplier, pass.s - 1);
+    hash_rows(ws, pass, weight, filter);
+    link_windows(ws, pass, weight, heads, filter);
 }

@@ -10,8 +10,8 @@ use mathlib.Core.List.{List, [], _∷_}
 use borrow.Author.Tests.{le-leb, lt-leb}
 use lib.ListN.{length, take, drop, getD}
 use Rattle.tiling.specs.Run.{mark}
-use Rattle.tiling.specs.Stretch.{stretchesAfter, ifLong, sumLong, fillable}
-use Rattle.stretch.specs.Sides.{freeFirst, freeLast, ifShort}
+use Rattle.tiling.specs.Stretch.{stretchesAfter, ifLong, sumLong, fillable, freeFirst}
+use Rattle.stretch.specs.Sides.{freeLast, ifShort}
 
 -- ---- one length
 pub long-is : (minimum len : ℕ) → minimum ≤ len → len ≡ ifLong minimum len

@@ -10,24 +10,10 @@ use borrow.Author.Tests.{le-leb, lt-leb}
 use lib.ListN.{length, take, drop, getD, length-drop, List·getD-eq-default}
 use lib.Seq.{getD-drop, take-all}
 use Rattle.tiling.specs.Run.{mark}
-use Rattle.tiling.specs.Stretch.{fillable}
-use Rattle.stretch.specs.Sides.{freeFirst, freeLast, ifShort, OnFree}
+use Rattle.tiling.specs.Stretch.{fillable, freeFirst}
+use Rattle.tiling.proofs.Stretch.{free-most, free-least}
+use Rattle.stretch.specs.Sides.{freeLast, ifShort, OnFree}
 use Rattle.stretch.proofs.Fillable.{tile-takes}
-
--- ---- from the start
-first-most : (ws : List ℕ) (i : ℕ) → getD ws i 0 ≡ 0 → freeFirst ws ≤ i
-unfolding freeFirst
-first-most [] i z = omega arith
-first-most (zero ∷ ws) i z = omega arith
-first-most (suc w ∷ ws) zero z = absurd (omega (arith, z))
-first-most (suc w ∷ ws) (suc i) z = omega (arith, first-most ws i z)
-
-first-least : (ws : List ℕ) (n : ℕ) → ((i : ℕ) → i < n → getD ws i 0 ≡ 0 → ⊥) → n ≤ freeFirst ws
-unfolding freeFirst
-first-least ws zero free = omega arith
-first-least [] (suc n) free = absurd (free 0 (omega arith) refl)
-first-least (zero ∷ ws) (suc n) free = absurd (free 0 (omega arith) refl)
-first-least (suc w ∷ ws) (suc n) free = omega (arith, first-least ws n (λ i l. free (suc i) (omega arith)))
 
 -- ---- from the end
 last-most : (a : ℕ) (ws : List ℕ) → freeLast a ws ≤ a + length ws
@@ -92,13 +78,13 @@ seen-more word n i s h d = record { within = omega arith; free = λ k l. go k l 
 -- Such a loop ends where all were seen, or at a word that is marked.
 module _ (ws : List ℕ) (most n i : ℕ) (e : n ≡ min most (length ws)) (s : Seen (λ k. getD ws k 0) n i) where
   at-least : i ≤ freeFirst ws
-  at-least = first-least ws i (s .free)
+  at-least = free-least ws i (s .free)
 
   pub first-all : n ≤ i → i ≡ min most (freeFirst ws)
-  first-all h = omega (arith, e, at-least, s .within, first-most ws (length ws) (List·getD-eq-default ws 0 {n = length ws} (omega arith)))
+  first-all h = omega (arith, e, at-least, s .within, free-most ws (length ws) (List·getD-eq-default ws 0 {n = length ws} (omega arith)))
 
   pub first-marked : i < n → getD ws i 0 ≡ 0 → i ≡ min most (freeFirst ws)
-  first-marked h z = omega (arith, e, at-least, first-most ws i z)
+  first-marked h z = omega (arith, e, at-least, free-most ws i z)
 
 module _ (ws : List ℕ) (most n i : ℕ) (e : n ≡ min most (length ws)) (s : Seen (λ k. getD ws (length ws - 1 - k) 0) n i) where
   at-end : i ≤ freeLast 0 ws

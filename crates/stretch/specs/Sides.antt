@@ -6,13 +6,7 @@ use mathlib.Core.List.{List, [], _∷_}
 use lib.Dec.{leb}
 use lib.ListN.{length, getD}
 
--- How many free words a list begins with.
-unfoldable pub freeFirst : List ℕ → ℕ
-freeFirst [] = 0
-freeFirst (zero ∷ ws) = 0
-freeFirst (suc w ∷ ws) = suc (freeFirst ws)
-
--- How many it ends with, where so many stand right before it.
+-- How many free words a list ends with, where so many stand right before it.
 unfoldable pub freeLast : ℕ → List ℕ → ℕ
 freeLast before [] = before
 freeLast before (zero ∷ ws) = freeLast 0 ws

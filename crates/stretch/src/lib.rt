@@ -4,8 +4,8 @@ ghost use mathlib.Core.Path.{_≡_};
 ghost use Prim.Native.Nat.{_+_, _≤_, _<_, min};
 ghost use lib.ListN.{length};
 ghost use Rattle.tiling.specs.Run.{mark};
-ghost use Rattle.tiling.specs.Stretch.{ifLong, fillable};
-ghost use Rattle.stretch.specs.Sides.{freeFirst, freeLast, ifShort, OnFree};
+ghost use Rattle.tiling.specs.Stretch.{ifLong, fillable, freeFirst};
+ghost use Rattle.stretch.specs.Sides.{freeLast, ifShort, OnFree};
 
 // How many free words a part of a sequence begins with, `most` at the most.
 fn free_first(words: &[u32], most: usize) -> usize

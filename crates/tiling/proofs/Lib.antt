@@ -2,6 +2,7 @@ pub mod Known
 pub mod Each
 pub mod Leading
 pub mod Run
+pub mod Stretch
 pub mod Tally
 pub mod Peak
 pub mod Greedy

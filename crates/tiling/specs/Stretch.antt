@@ -27,3 +27,9 @@ sumLong minimum (len ∷ lens) = ifLong minimum len + sumLong minimum lens
 -- How many words further tiles could take at the most: "the pattern's free stretches of at least the minimum length" (02, U5).
 abbrev pub fillable : ℕ → List ℕ → ℕ
 fillable minimum pattern = sumLong minimum (stretches pattern)
+
+-- How many free words a list begins with.
+unfoldable pub freeFirst : List ℕ → ℕ
+freeFirst [] = 0
+freeFirst (zero ∷ ws) = 0
+freeFirst (suc w ∷ ws) = suc (freeFirst ws)

@@ -118,148 +118,148 @@ module _ (B s : ℕ) (words b₀ b : List ℕ) (h i : ℕ) (inv : Filled B s (ma
   pub replaced-all : (b₁ : List ℕ) → length words ≤ i + s → b₁ ≡ set b i h → b₁ ≡ onto (hashes B s words) b₀
   replaced-all b₁ all e = rw (← hashes-are B s words) (filled-all B s (map replaced words) b₀ b h i inv b₁ (rw (length-map words replaced) all) e)
 
--- ---- the loop of hash_windows: words and hashes are the two parts of one workspace. Two hashes are rolled side by side, from the first
+-- ---- the loop of hash_windows: the words are the first of a part of the workspace, and the hashes stand
+-- `distance` words on. Two hashes are rolled side by side, from the first
 -- window on and from the one at `half` on.
 -- The hash at k stands in its place.
-abbrev pub Stands : ℕ → ℕ → ℕ → List ℕ → List ℕ → ℕ → Type 0
-Stands B s total ws₀ ws k = getD ws (total + k) 0 ≡ atWindow B s (take total ws₀) k
+abbrev pub Stands : ℕ → ℕ → ℕ → ℕ → List ℕ → List ℕ → ℕ → Type 0
+Stands B s count distance ws₀ ws k = getD ws (distance + k) 0 ≡ atWindow B s (take count ws₀) k
 
-pub record Beside (B s total half : ℕ) (ws₀ ws : List ℕ) (near far i : ℕ) : Type 0 where
-  pub within : half + i + s ≤ total
+pub record Beside (B s count distance half : ℕ) (ws₀ ws : List ℕ) (near far i : ℕ) : Type 0 where
+  pub within : half + i + s ≤ count
   pub same : length ws ≡ length ws₀
-  pub front : take total ws ≡ take total ws₀
-  pub first : near ≡ atWindow B s (take total ws₀) i
-  pub second : far ≡ atWindow B s (take total ws₀) (half + i)
-  pub before : (k : ℕ) → k < i → Stands B s total ws₀ ws k
-  pub behind : (k : ℕ) → half ≤ k → k < half + i → Stands B s total ws₀ ws k
-  pub kept : (k : ℕ) → windows s total ≤ k → getD ws (total + k) 0 ≡ getD ws₀ (total + k) 0
-
-pub none-beside : (B s total : ℕ) (ws : List ℕ) → total < s → ws ≡ take total ws ++ onto (hashesBy (wordsHash B) s (take total ws)) (drop total ws)
-none-beside B s total ws h =
-    sym (take-append-drop total ws) ∙ ap (λ b. take total ws ++ b) (none-fits (wordsHash B) s (take total ws) (drop total ws) (omega (arith, length-take total ws)))
+  pub front : take distance ws ≡ take distance ws₀
+  pub first : near ≡ atWindow B s (take count ws₀) i
+  pub second : far ≡ atWindow B s (take count ws₀) (half + i)
+  pub before : (k : ℕ) → k < i → Stands B s count distance ws₀ ws k
+  pub behind : (k : ℕ) → half ≤ k → k < half + i → Stands B s count distance ws₀ ws k
+  pub kept : (k : ℕ) → windows s count ≤ k → getD ws (distance + k) 0 ≡ getD ws₀ (distance + k) 0
 
 halves : (n half : ℕ) → half ≡ n / 2 → 2 * half ≤ n
 halves n half e = rw e (mul-div-le n 2)
 
 -- A window of the words, as the slice that the code hands on.
-slice-hash : (B s total at : ℕ) (ws : List ℕ) → at + s ≤ total → wordsHash B (take s (drop at ws)) ≡ atWindow B s (take total ws) at
-slice-hash B s total at ws fits =
-    ap (wordsHash B) (sym (take-take s (total - at) (drop at ws) (omega arith)) ∙ ap (take s) (rest-of-front at total ws))
+slice-hash : (B s count at : ℕ) (ws : List ℕ) → at + s ≤ count → wordsHash B (take s (drop at ws)) ≡ atWindow B s (take count ws) at
+slice-hash B s count at ws fits =
+    ap (wordsHash B) (sym (take-take s (count - at) (drop at ws) (omega arith)) ∙ ap (take s) (rest-of-front at count ws))
 
-pub beside-none : (B s total half : ℕ) (ws : List ℕ) (near far : ℕ) → 1 ≤ s → s ≤ total → half ≡ (total + 1 - s) / 2 → near ≡ wordsHash B (take (s - 0) (drop 0 ws)) → far ≡ wordsHash B (take (half + s - half) (drop half ws)) → Beside B s total half ws ws near far 0
-beside-none B s total half ws near far least fits middle e d =
-    let most : 2 * half ≤ total + 1 - s = halves (total + 1 - s) half middle in
+pub beside-none : (B s count distance half : ℕ) (ws : List ℕ) (near far : ℕ) → 1 ≤ s → s ≤ count → half ≡ (count + 1 - s) / 2 → near ≡ wordsHash B (take (s - 0) (drop 0 ws)) → far ≡ wordsHash B (take (half + s - half) (drop half ws)) → Beside B s count distance half ws ws near far 0
+beside-none B s count distance half ws near far least fits middle e d =
+    let most : 2 * half ≤ count + 1 - s = halves (count + 1 - s) half middle in
     let width : half + s - half ≡ s = omega arith in
     record {
       within = omega arith;
       same = refl;
       front = refl;
-      first = rw (sub-zero s) at e ∙ slice-hash B s total 0 ws (omega arith);
-      second = rw (add-zero half) (rw width at d ∙ slice-hash B s total half ws (omega arith));
+      first = rw (sub-zero s) at e ∙ slice-hash B s count 0 ws (omega arith);
+      second = rw (add-zero half) (rw width at d ∙ slice-hash B s count half ws (omega arith));
       before = λ k l. absurd (omega arith);
       behind = λ k h l. absurd (omega arith);
       kept = λ k l. refl;
     }
 
 -- A hash that stands in its place does so after a hash is stored, be it the same.
-module _ (B s total : ℕ) (ws₀ ws : List ℕ) (at v : ℕ) (right : v ≡ atWindow B s (take total ws₀) at) (room : total + at < length ws) where
-  stands-here : Stands B s total ws₀ (set ws (total + at) v) at
-  stands-here = getD-set-same ws (total + at) v 0 room ∙ right
+module _ (B s count distance : ℕ) (ws₀ ws : List ℕ) (at v : ℕ) (right : v ≡ atWindow B s (take count ws₀) at) (room : distance + at < length ws) where
+  stands-here : Stands B s count distance ws₀ (set ws (distance + at) v) at
+  stands-here = getD-set-same ws (distance + at) v 0 room ∙ right
 
-  stands-still : (k : ℕ) → Stands B s total ws₀ ws k → Stands B s total ws₀ (set ws (total + at) v) k
+  stands-still : (k : ℕ) → Stands B s count distance ws₀ ws k → Stands B s count distance ws₀ (set ws (distance + at) v) k
   stands-still k e = go (ℕ-discrete k at)
     where
-      go : Dec (k ≡ at) → Stands B s total ws₀ (set ws (total + at) v) k
+      go : Dec (k ≡ at) → Stands B s count distance ws₀ (set ws (distance + at) v) k
       go (yes d) = rw d stands-here
-      go (no d) = getD-set-other ws (total + at) (total + k) v 0 (λ c. d (omega (arith, c))) ∙ e
+      go (no d) = getD-set-other ws (distance + at) (distance + k) v 0 (λ c. d (omega (arith, c))) ∙ e
 
-module _ (B s total half : ℕ) (ws₀ ws : List ℕ) (near far i : ℕ) (inv : Beside B s total half ws₀ ws near far i) (least : 1 ≤ s) (room : 2 * total ≤ length ws₀) where
+module _ (B s count distance half : ℕ) (ws₀ ws : List ℕ) (near far i : ℕ) (inv : Beside B s count distance half ws₀ ws near far i) (least : 1 ≤ s) (apart : count ≤ distance) (room : distance + count ≤ length ws₀) where
   -- A word before the hashes is the word that stood there.
-  word-at : (k : ℕ) → k < total → getD ws k 0 ≡ getD (take total ws₀) k 0
-  word-at k less = sym (getD-take total ws k 0 less) ∙ ap (λ xs. getD xs k 0) (inv .front)
+  word-at : (k : ℕ) → k < count → getD ws k 0 ≡ getD (take count ws₀) k 0
+  word-at k less =
+      sym (getD-take distance ws k 0 (omega arith))
+      ∙ (ap (λ xs. getD xs k 0) (inv .front)
+      ∙ (getD-take distance ws₀ k 0 (omega arith) ∙ sym (getD-take count ws₀ k 0 less)))
 
-  words-are : length (take total ws₀) ≡ total
-  words-are = length-take-le total ws₀ (omega arith)
+  words-are : length (take count ws₀) ≡ count
+  words-are = length-take-le count ws₀ (omega arith)
 
   -- The workspace with the first hash stored, and with both.
   abbrev once : List ℕ
-  once = set ws (total + i) near
+  once = set ws (distance + i) near
 
   abbrev twice : List ℕ
-  twice = set once (total + (half + i)) far
+  twice = set once (distance + (half + i)) far
 
-  pub once-room : total + (half + i) < length once
-  once-room = omega (arith, length-set ws (total + i) near, inv .same, inv .within)
+  pub once-room : distance + (half + i) < length once
+  once-room = omega (arith, length-set ws (distance + i) near, inv .same, inv .within)
 
-  both-front : take total twice ≡ take total ws₀
+  both-front : take distance twice ≡ take distance ws₀
   both-front =
-      take-set-le total once (total + (half + i)) far (omega arith)
-      ∙ (take-set-le total ws (total + i) near (omega arith) ∙ inv .front)
+      take-set-le distance once (distance + (half + i)) far (omega arith)
+      ∙ (take-set-le distance ws (distance + i) near (omega arith) ∙ inv .front)
 
-  both-still : (k : ℕ) → Stands B s total ws₀ ws k → Stands B s total ws₀ twice k
+  both-still : (k : ℕ) → Stands B s count distance ws₀ ws k → Stands B s count distance ws₀ twice k
   both-still k e =
-      stands-still B s total ws₀ once (half + i) far (inv .second) once-room k
-      (stands-still B s total ws₀ ws i near (inv .first) (omega (arith, inv .same, inv .within)) k e)
+      stands-still B s count distance ws₀ once (half + i) far (inv .second) once-room k
+      (stands-still B s count distance ws₀ ws i near (inv .first) (omega (arith, inv .same, inv .within)) k e)
 
-  both-before : (k : ℕ) → k < i + 1 → Stands B s total ws₀ twice k
+  both-before : (k : ℕ) → k < i + 1 → Stands B s count distance ws₀ twice k
   both-before k l = go (ℕ-discrete k i)
     where
-      go : Dec (k ≡ i) → Stands B s total ws₀ twice k
+      go : Dec (k ≡ i) → Stands B s count distance ws₀ twice k
       go (yes d) =
           rw d
-          (stands-still B s total ws₀ once (half + i) far (inv .second) once-room i
-          (stands-here B s total ws₀ ws i near (inv .first) (omega (arith, inv .same, inv .within))))
+          (stands-still B s count distance ws₀ once (half + i) far (inv .second) once-room i
+          (stands-here B s count distance ws₀ ws i near (inv .first) (omega (arith, inv .same, inv .within))))
       go (no d) = both-still k (inv .before k (omega (arith, d)))
 
-  both-behind : (k : ℕ) → half ≤ k → k < half + (i + 1) → Stands B s total ws₀ twice k
+  both-behind : (k : ℕ) → half ≤ k → k < half + (i + 1) → Stands B s count distance ws₀ twice k
   both-behind k h l = go (ℕ-discrete k (half + i))
     where
-      go : Dec (k ≡ half + i) → Stands B s total ws₀ twice k
-      go (yes d) = rw d (stands-here B s total ws₀ once (half + i) far (inv .second) once-room)
+      go : Dec (k ≡ half + i) → Stands B s count distance ws₀ twice k
+      go (yes d) = rw d (stands-here B s count distance ws₀ once (half + i) far (inv .second) once-room)
       go (no d) = both-still k (inv .behind k h (omega (arith, d)))
 
-  both-kept : (k : ℕ) → windows s total ≤ k → getD twice (total + k) 0 ≡ getD ws₀ (total + k) 0
+  both-kept : (k : ℕ) → windows s count ≤ k → getD twice (distance + k) 0 ≡ getD ws₀ (distance + k) 0
   both-kept k l =
-      getD-set-other once (total + (half + i)) (total + k) far 0 (λ c. absurd (omega (arith, c, l, inv .within)))
-      ∙ (getD-set-other ws (total + i) (total + k) near 0 (λ c. absurd (omega (arith, c, l, inv .within))) ∙ inv .kept k l)
+      getD-set-other once (distance + (half + i)) (distance + k) far 0 (λ c. absurd (omega (arith, c, l, inv .within)))
+      ∙ (getD-set-other ws (distance + i) (distance + k) near 0 (λ c. absurd (omega (arith, c, l, inv .within))) ∙ inv .kept k l)
 
   both-same : length twice ≡ length ws₀
-  both-same = length-set once (total + (half + i)) far ∙ (length-set ws (total + i) near ∙ inv .same)
+  both-same = length-set once (distance + (half + i)) far ∙ (length-set ws (distance + i) near ∙ inv .same)
 
-  pub beside-more : (p near' far' : ℕ) → p ≡ B ^ (s - 1) % 2 ^ 32 → half + i + s < total → Rolls B p near (getD ws i 0) (getD ws (i + s) 0) near' → Rolls B p far (getD ws (half + i) 0) (getD ws (half + i + s) 0) far' → Beside B s total half ws₀ twice near' far' (i + 1)
+  pub beside-more : (p near' far' : ℕ) → p ≡ B ^ (s - 1) % 2 ^ 32 → half + i + s < count → Rolls B p near (getD ws i 0) (getD ws (i + s) 0) near' → Rolls B p far (getD ws (half + i) 0) (getD ws (half + i + s) 0) far' → Beside B s count distance half ws₀ twice near' far' (i + 1)
   beside-more p near' far' q less rolls rolls' =
       let on : half + (i + 1) ≡ half + i + 1 = omega arith in
       record {
         within = omega arith;
         same = both-same;
         front = both-front;
-        first = hash-next B s (take total ws₀) p near near' i least q (omega (arith, words-are)) (inv .first) (rw (word-at i (omega arith), word-at (i + s) (omega arith)) at rolls);
-        second = rw on (hash-next B s (take total ws₀) p far far' (half + i) least q (omega (arith, words-are)) (inv .second) (rw (word-at (half + i) (omega arith), word-at (half + i + s) less) at rolls'));
+        first = hash-next B s (take count ws₀) p near near' i least q (omega (arith, words-are)) (inv .first) (rw (word-at i (omega arith), word-at (i + s) (omega arith)) at rolls);
+        second = rw on (hash-next B s (take count ws₀) p far far' (half + i) least q (omega (arith, words-are)) (inv .second) (rw (word-at (half + i) (omega arith), word-at (half + i + s) less) at rolls'));
         before = both-before;
         behind = both-behind;
         kept = both-kept;
       }
 
-  pub beside-all : (ws₁ ws₂ : List ℕ) → half ≡ (total + 1 - s) / 2 → total ≤ half + i + s → ws₁ ≡ set ws (total + i) near → ws₂ ≡ set ws₁ (total + (half + i)) far → ws₂ ≡ take total ws₀ ++ onto (hashesBy (wordsHash B) s (take total ws₀)) (drop total ws₀)
+  pub beside-all : (ws₁ ws₂ : List ℕ) → half ≡ (count + 1 - s) / 2 → count ≤ half + i + s → ws₁ ≡ set ws (distance + i) near → ws₂ ≡ set ws₁ (distance + (half + i)) far → ws₂ ≡ take distance ws₀ ++ onto (hashesBy (wordsHash B) s (take count ws₀)) (drop distance ws₀)
   beside-all ws₁ ws₂ middle all e d =
-      let made : ws₂ ≡ twice = d ∙ ap (λ xs. set xs (total + (half + i)) far) e in
-      let back : drop total twice ≡ onto (hashesBy (wordsHash B) s (take total ws₀)) (drop total ws₀) =
-      onto-words (hashesBy (wordsHash B) s (take total ws₀)) (drop total ws₀) (drop total twice)
-      (omega (arith, count, words-are, length-drop total ws₀))
-      (length-drop total twice ∙ (ap (λ n. n - total) both-same ∙ sym (length-drop total ws₀)))
-      (λ k l. getD-drop total twice k 0 ∙ (all-stand k (omega (arith, l, count, words-are)) ∙ sym (getD-hashes B s (take total ws₀) k (omega (arith, l, count, words-are)))))
-      (λ k l. getD-drop total twice k 0 ∙ (both-kept k (omega (arith, l, count, words-are)) ∙ sym (getD-drop total ws₀ k 0))) in
-      made ∙ (sym (take-append-drop total twice) ∙ rw (both-front, back) refl)
+      let made : ws₂ ≡ twice = d ∙ ap (λ xs. set xs (distance + (half + i)) far) e in
+      let back : drop distance twice ≡ onto (hashesBy (wordsHash B) s (take count ws₀)) (drop distance ws₀) =
+      onto-words (hashesBy (wordsHash B) s (take count ws₀)) (drop distance ws₀) (drop distance twice)
+      (omega (arith, many, words-are, length-drop distance ws₀))
+      (length-drop distance twice ∙ (ap (λ n. n - distance) both-same ∙ sym (length-drop distance ws₀)))
+      (λ k l. getD-drop distance twice k 0 ∙ (all-stand k (omega (arith, l, many, words-are)) ∙ sym (getD-hashes B s (take count ws₀) k (omega (arith, l, many, words-are)))))
+      (λ k l. getD-drop distance twice k 0 ∙ (both-kept k (omega (arith, l, many, words-are)) ∙ sym (getD-drop distance ws₀ k 0))) in
+      made ∙ (sym (take-append-drop distance twice) ∙ rw (both-front, back) refl)
     where
-      count : length (hashesBy (wordsHash B) s (take total ws₀)) ≡ windows s (length (take total ws₀))
-      count = length-hashes B s (take total ws₀)
+      many : length (hashesBy (wordsHash B) s (take count ws₀)) ≡ windows s (length (take count ws₀))
+      many = length-hashes B s (take count ws₀)
 
-      all-stand : (k : ℕ) → k + s ≤ total → Stands B s total ws₀ twice k
+      all-stand : (k : ℕ) → k + s ≤ count → Stands B s count distance ws₀ twice k
       all-stand k fits = go (decLt k (i + 1))
         where
-          go : Dec (k < i + 1) → Stands B s total ws₀ twice k
+          go : Dec (k < i + 1) → Stands B s count distance ws₀ twice k
           go (yes l) = both-before k l
-          go (no l) = both-behind k (omega (arith, l, halves (total + 1 - s) half middle)) (omega (arith, l))
+          go (no l) = both-behind k (omega (arith, l, halves (count + 1 - s) half middle)) (omega (arith, l))
 
 -- ---- what an accepted call has
 pub record Accepted (words : List ℕ) (s room : ℕ) : Type 0 where

@@ -2,7 +2,7 @@
 use symbol::Counted;
 ghost use mathlib.Core.Path.{_≡_};
 ghost use mathlib.Core.List.{List, [], _∷_, _++_};
-ghost use Prim.Native.Nat.{ℕ, _+_, _*_, _%_, _^_, _≤_, _<_};
+ghost use Prim.Native.Nat.{ℕ, _+_, _-_, _*_, _%_, _^_, _≤_, _<_};
 ghost use lib.ListN.{length, take, drop};
 ghost use Rattle.buffer.specs.Buffer.{onto};
 ghost use Rattle.window.specs.Hash.{wordsHash, hash};
@@ -16,7 +16,7 @@ fn wrapping_mul(a: u32, b: u32) -> u32
 }
 
 // The e-th power of b, modulo 2^32; 1 for e = 0, whatever b is.
-fn power(b: u32, e: usize) -> u32
+pub fn power(b: u32, e: usize) -> u32
     ensures { λ r. ⌜ r ≡ b ^ e % 2 ^ 32 ⌝ }
 {
     let mut p = 1;
@@ -85,32 +85,28 @@ fn fill_hashes(words: &[u32], b: u32, s: usize, buffer: &mut [u32])
     buffer::put(buffer, i, h);
 }
 
-// Fills the part of the workspace after its first total words with the hash at each position of those where a window of s
-// words fits. The words are hashed as they stand: in a workspace they are replaced already. Each hash waits for the one before it,
-// so two are rolled side by side, from the first window and from the middle one.
-pub fn hash_windows(ws: &mut [u32], total: usize, b: u32, s: usize)
-    requires { ⌜ (1 ≤ s) × (total ≤ 4096) × (2 * total ≤ length (now ws)) ⌝ }
-    ensures { λ r. ⌜ now (ws .exit) ≡ take total (now (ws .entry)) ++ onto (hashesBy (wordsHash b) s (take total (now (ws .entry)))) (drop total (now (ws .entry))) ⌝ }
+// Fills a part of the workspace from `distance` words on with the hash at each of its first `count` words where a window of s words
+// fits. The words are hashed as they stand: in a workspace they are replaced already. Each hash waits for the one before it, so two are
+// rolled side by side, from the first window and from the middle one. The weight is the power of b that the first word of a window has.
+pub fn hash_windows(part: &mut [u32], count: usize, distance: usize, weight: u32, b: u32, s: usize)
+    requires { ⌜ (1 ≤ s) × (s ≤ count) × (count ≤ distance) × (distance ≤ 4096) × (distance + count ≤ length (now part)) × (weight ≡ b ^ (s - 1) % 2 ^ 32) ⌝ }
+    ensures { λ r. ⌜ now (part .exit) ≡ take distance (now (part .entry)) ++ onto (hashesBy (wordsHash b) s (take count (now (part .entry)))) (drop distance (now (part .entry))) ⌝ }
 {
-    if total < s {
-        return;
-    }
-    let weight = power(b, s - 1);
-    let half = (total + 1 - s) / 2;
-    let mut near = hash_of(b, &ws[0..s]);
-    let mut far = hash_of(b, &ws[half..half + s]);
+    let half = (count + 1 - s) / 2;
+    let mut near = hash_of(b, &part[0..s]);
+    let mut far = hash_of(b, &part[half..half + s]);
     let mut i = 0;
-    while half + i + s < total {
-        let next_near = roll(near, ws[i], weight, b, ws[i + s]);
-        let next_far = roll(far, ws[half + i], weight, b, ws[half + i + s]);
-        ws[total + i] = near;
-        ws[total + (half + i)] = far;
+    while half + i + s < count {
+        let next_near = roll(near, part[i], weight, b, part[i + s]);
+        let next_far = roll(far, part[half + i], weight, b, part[half + i + s]);
+        part[distance + i] = near;
+        part[distance + (half + i)] = far;
         near = next_near;
         far = next_far;
         i += 1;
     }
-    buffer::put(ws, total + i, near);
-    buffer::put(ws, total + (half + i), far);
+    buffer::put(part, distance + i, near);
+    buffer::put(part, distance + (half + i), far);
 }
 
 // At how many positions of n words a window of s words fits.

@@ -1,15 +1,15 @@
--- `index::raise_rows` meets its contract: at the head of each turn the entries of the windows from p on are set.
+-- `index::raise_rows` meets its contract: at the head of each turn the entries of the free windows from p on are set.
 -- Assumes nothing.
-use Rattle.index.proofs.Linking.{Raising, raising-none, raising-more, raising-all}
+use Rattle.index.proofs.Rows.{Raising, raising-none, raising-inside, raising-more, raising-all}
 use borrow.Author.Needs.{needs}
 use Rattle.index.proofs.raise_rows.Statement.{statement}
 use Rattle.index.proofs.raise_rows.Tie as tie
 
 abbrev Inv-loop : tie.InvT-loop
-Inv-loop ws job filter₀ p₀ filter p = Raising job ws filter p
+Inv-loop ws pass from filter₀ p₀ filter p = Raising pass ws filter (from .0) p₀ p
 
 abbrev μ-loop : tie.MeasureT-loop
-μ-loop ws job filter₀ p₀ filter p = p
+μ-loop ws pass from filter₀ p₀ filter p = p
 
 loop-holds : tie.Need-loop-holds Inv-loop μ-loop
 loop-holds c = search raising-none
@@ -18,7 +18,7 @@ sub-p : tie.Need-sub-p Inv-loop μ-loop
 sub-p c = search needs
 
 pattern-hash-requires : tie.Need-pattern-hash-requires Inv-loop μ-loop
-pattern-hash-requires c κs = search needs
+pattern-hash-requires c κs = (search needs, search raising-inside)
 
 slot-of-requires : tie.Need-slot-of-requires Inv-loop μ-loop
 slot-of-requires c κs = search needs

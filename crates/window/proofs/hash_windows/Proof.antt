@@ -1,26 +1,18 @@
 -- `window::hash_windows` meets its contract: the words stand before the hashes and are left as they were, so at the head of each turn the
--- hashes before i stand after them, and those of as many windows from the middle one on; near and far are the hashes at i and at half + i.
+-- hashes before i stand at their distance, and those of as many windows from the middle one on; near and far are the hashes at i and at
+-- half + i.
 -- Assumes nothing.
 use Prim.Native.Nat.{_-_}
-use Rattle.window.proofs.HashList.{Beside, none-beside, beside-none, once-room, beside-more, beside-all}
+use Rattle.window.proofs.HashList.{Beside, beside-none, once-room, beside-more, beside-all}
 use borrow.Author.Needs.{needs}
 use Rattle.window.proofs.hash_windows.Statement.{statement}
 use Rattle.window.proofs.hash_windows.Tie as tie
 
 abbrev Inv-loop : tie.InvT-loop
-Inv-loop ws₀ total b s weight half near₀ far₀ i₀ ws near far i = Beside b s total half ws₀ ws near far i
+Inv-loop part₀ count distance weight b s half near₀ far₀ i₀ part near far i = Beside b s count distance half part₀ part near far i
 
 abbrev μ-loop : tie.MeasureT-loop
-μ-loop ws₀ total b s weight half near₀ far₀ i₀ ws near far i = total - i
-
-returns : tie.Need-returns Inv-loop μ-loop
-returns c = search none-beside
-
-sub-power : tie.Need-sub-power Inv-loop μ-loop
-sub-power c = search needs
-
-power-requires : tie.Need-power-requires Inv-loop μ-loop
-power-requires c κs = search needs
+μ-loop part₀ count distance weight b s half near₀ far₀ i₀ part near far i = count - i
 
 add-half : tie.Need-add-half Inv-loop μ-loop
 add-half c = search needs
@@ -109,28 +101,28 @@ slice-read-roll-4 c = search needs
 roll-requires-2 : tie.Need-roll-requires-2 Inv-loop μ-loop
 roll-requires-2 c κs = search needs
 
-add-ws : tie.Need-add-ws Inv-loop μ-loop
-add-ws c = search needs
+add-part : tie.Need-add-part Inv-loop μ-loop
+add-part c = search needs
 
-mul-ws : tie.Need-mul-ws Inv-loop μ-loop
-mul-ws c = search needs
+mul-part : tie.Need-mul-part Inv-loop μ-loop
+mul-part c = search needs
 
-slice-write-ws : tie.Need-slice-write-ws Inv-loop μ-loop
-slice-write-ws c = search needs
+slice-write-part : tie.Need-slice-write-part Inv-loop μ-loop
+slice-write-part c = search needs
 
-add-ws-2 : tie.Need-add-ws-2 Inv-loop μ-loop
-add-ws-2 c = search needs
+add-part-2 : tie.Need-add-part-2 Inv-loop μ-loop
+add-part-2 c = search needs
 
-add-ws-3 : tie.Need-add-ws-3 Inv-loop μ-loop
-add-ws-3 c = search needs
+add-part-3 : tie.Need-add-part-3 Inv-loop μ-loop
+add-part-3 c = search needs
 
-mul-ws-2 : tie.Need-mul-ws-2 Inv-loop μ-loop
-mul-ws-2 c = search needs
+mul-part-2 : tie.Need-mul-part-2 Inv-loop μ-loop
+mul-part-2 c = search needs
 
-slice-write-ws-2 : tie.Need-slice-write-ws-2 Inv-loop μ-loop
-slice-write-ws-2 c =
+slice-write-part-2 : tie.Need-slice-write-part-2 Inv-loop μ-loop
+slice-write-part-2 c =
     let turn = c .before .before .before .before .before .before .before in
-    once-room _ _ _ _ _ _ _ _ _ (turn .loop .inv) (search needs) (search needs)
+    once-room _ _ _ _ _ _ _ _ _ _ (turn .loop .inv) (search needs) (search needs) (search needs)
 
 add-i : tie.Need-add-i Inv-loop μ-loop
 add-i c = search needs
@@ -159,8 +151,8 @@ put-requires-2 c κs = search needs
 same-length : tie.Need-same-length Inv-loop μ-loop
 same-length c = search needs
 
-returns-2 : tie.Need-returns-2 Inv-loop μ-loop
-returns-2 c = search beside-all
+returns : tie.Need-returns Inv-loop μ-loop
+returns c = search beside-all
 
 pub hash-windows-spec : {M : Type 1} → statement M
 hash-windows-spec =
@@ -168,9 +160,6 @@ hash-windows-spec =
     (tie.spec
     Inv-loop
     μ-loop
-    returns
-    sub-power
-    power-requires
     add-half
     sub-half
     sub-hash-of
@@ -200,13 +189,13 @@ hash-windows-spec =
     mul-roll-4
     slice-read-roll-4
     roll-requires-2
-    add-ws
-    mul-ws
-    slice-write-ws
-    add-ws-2
-    add-ws-3
-    mul-ws-2
-    slice-write-ws-2
+    add-part
+    mul-part
+    slice-write-part
+    add-part-2
+    add-part-3
+    mul-part-2
+    slice-write-part-2
     add-i
     loop-less
     loop-again
@@ -216,4 +205,4 @@ hash-windows-spec =
     add-put-3
     put-requires-2
     same-length
-    returns-2)
+    returns)
