@@ -1,11 +1,12 @@
 -- The two ends of a comparison: what it starts from, and what it answers. No reader of the engines' contracts needs these.
-use Prim.Native.Nat.{ℕ}
+use Prim.Native.Nat.{ℕ, _+_, _*_}
 use mathlib.Core.Bool.{true}
 use mathlib.Core.Path.{_≡_}
 use mathlib.Core.List.{List, _++_, map}
 use lib.ListN.{length, replicate}
 use Rattle.symbol.specs.Word.{replaced}
 use Rattle.buffer.specs.Buffer.{onto}
+use Rattle.tiling.specs.Run.{mark}
 use Rattle.tiling.specs.Choice.{firstIsPattern, patternOf, textOf}
 use Rattle.tiling.specs.Stretch.{ifLong}
 use Rattle.tiling.specs.Listing.{score}
@@ -28,10 +29,16 @@ jobOf first second minimum =
       straight = firstIsPattern first second;
     }
 
--- A comparison was opened: its job, and the workspace, which begins with the replaced words of pattern and text.
+-- What a comparison begins with: the workspace has the replaced words of pattern and text at its start, and chains in which each word has its
+-- neighbours for the next and the previous one.
+abbrev pub begun : List ℕ → List ℕ → List ℕ → List ℕ
+begun pattern text ws =
+    mark (3 * (length pattern + length text)) (length pattern + length text) (onto (map replaced pattern ++ map replaced text) ws)
+
+-- A comparison was opened: its job, and the workspace.
 pub record Opened (first second : List ℕ) (minimum : ℕ) (ws : List ℕ) (j : Job) (ws' : List ℕ) : Type 0 where
   pub job : j ≡ jobOf first second minimum
-  pub copied : ws' ≡ onto (map replaced (patternOf first second) ++ map replaced (textOf first second)) ws
+  pub copied : ws' ≡ begun (patternOf first second) (textOf first second) ws
 
 -- Nothing is laid yet, and all words are free.
 abbrev pub noTiles : Job → Goal → Totals

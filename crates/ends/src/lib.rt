@@ -7,12 +7,12 @@ use sweep::Totals;
 use tiling::Compared;
 ghost use mathlib.Core.Path.{_≡_};
 ghost use mathlib.Core.List.{_++_, map};
-ghost use Prim.Native.Nat.{_+_, _≤_};
+ghost use Prim.Native.Nat.{_+_, _*_, _≤_};
 ghost use lib.ListN.{length, replicate};
 ghost use Rattle.symbol.specs.Word.{replaced};
 ghost use Rattle.buffer.specs.Buffer.{onto};
 ghost use Rattle.tiling.specs.Choice.{firstIsPattern};
-ghost use Rattle.ends.specs.Ends.{wholeGoal, Opened, noTiles, refusedBy, Closed};
+ghost use Rattle.ends.specs.Ends.{wholeGoal, begun, Opened, noTiles, refusedBy, Closed};
 
 // Whether the first sequence is the pattern: the shorter one is, and of equal lengths the one with the smaller word, as it stands, at the first
 // position where they differ. Of equal sequences it is the first.
@@ -61,6 +61,16 @@ fn copy_in(pattern: &[u32], text: &[u32], ws: &mut [u32])
     copy_replaced(text, &mut ws[n..end]);
 }
 
+// The same, and links each word to its neighbours: all are free.
+fn begin(pattern: &[u32], text: &[u32], ws: &mut [u32])
+    requires { ⌜ 4 * (length (now pattern) + length (now text)) ≤ length (now ws) ⌝ }
+    ensures { λ r. ⌜ now (ws .exit) ≡ begun (now (pattern .entry)) (now (text .entry)) (now (ws .entry)) ⌝ }
+{
+    let words = pattern.len() + text.len();
+    copy_in(pattern, text, ws);
+    tile::mark_words(ws, 3 * words, words);
+}
+
 // The goal of a whole comparison: its tiles are listed, and no comparison covers enough words to stop it.
 pub fn whole() -> Goal
     ensures { λ r. ⌜ r ≡ wholeGoal ⌝ }
@@ -72,13 +82,13 @@ pub fn whole() -> Goal
     }
 }
 
-// Chooses the pattern, by the words as handed in, and puts pattern and text to the start of the workspace.
+// Chooses the pattern, by the words as handed in, puts pattern and text to the start of the workspace, and links their words.
 pub fn open(first: &[u32], second: &[u32], minimum: usize, ws: &mut [u32]) -> Job
-    requires { ⌜ length (now first) + length (now second) ≤ length (now ws) ⌝ }
+    requires { ⌜ 4 * (length (now first) + length (now second)) ≤ length (now ws) ⌝ }
     ensures { λ r. ⌜ Opened (now (first .entry)) (now (second .entry)) minimum (now (ws .entry)) r (now (ws .exit)) ⌝ }
 {
     if first_is_pattern(first, second) {
-        copy_in(first, second, ws);
+        begin(first, second, ws);
         return Job {
             n: first.len(),
             m: second.len(),
@@ -86,7 +96,7 @@ pub fn open(first: &[u32], second: &[u32], minimum: usize, ws: &mut [u32]) -> Jo
             straight: true,
         };
     }
-    copy_in(second, first, ws);
+    begin(second, first, ws);
     Job {
         n: second.len(),
         m: first.len(),

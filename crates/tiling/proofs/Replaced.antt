@@ -65,7 +65,7 @@ mark-replaced zero (suc n) (x ∷ xs) = rw (mark-replaced zero n xs, replaced-be
 
 -- ---- free stretches
 -- Only a marked word becomes 0.
-replaced-free : (w : ℕ) → replaced w ≡ 0 → w ≡ 0
+pub replaced-free : (w : ℕ) → replaced w ≡ 0 → w ≡ 0
 replaced-free w z = go (isRetired w) refl
   where
     go : (b : Bool) → isRetired w ≡ b → w ≡ 0

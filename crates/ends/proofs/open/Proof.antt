@@ -8,8 +8,8 @@ use Rattle.ends.proofs.open.Tie as tie
 first-is-pattern-requires : tie.Need-first-is-pattern-requires
 first-is-pattern-requires c κs = search needs
 
-copy-in-requires : tie.Need-copy-in-requires
-copy-in-requires c κs = search needs
+begin-requires : tie.Need-begin-requires
+begin-requires c κs = search needs
 
 same-length : tie.Need-same-length
 same-length c = search needs
@@ -17,8 +17,8 @@ same-length c = search needs
 returns : tie.Need-returns
 returns c = search opened-first
 
-copy-in-requires-2 : tie.Need-copy-in-requires-2
-copy-in-requires-2 c κs = search needs
+begin-requires-2 : tie.Need-begin-requires-2
+begin-requires-2 c κs = search needs
 
 same-length-2 : tie.Need-same-length-2
 same-length-2 c = search needs
@@ -31,9 +31,9 @@ open-spec =
     tie.close
     (tie.spec
     first-is-pattern-requires
-    copy-in-requires
+    begin-requires
     same-length
     returns
-    copy-in-requires-2
+    begin-requires-2
     same-length-2
     returns-2)
