@@ -9,7 +9,7 @@ use mathlib.Core.Bool.{Bool, true, false}
 use mathlib.Core.List.{List}
 use borrow.Author.Tests.{ltb-true, lt-ltb, le-ltb}
 use lib.Dec.{ltb}
-use lib.ListN.{length, drop, getD, length-drop}
+use lib.ListN.{drop, getD, length-drop}
 use Rattle.symbol.specs.Word.{equalCalls}
 use Rattle.symbol.proofs.Word.{and-left}
 use Rattle.tile.specs.declared.TextAt.{TextAt}
@@ -95,6 +95,9 @@ sweeping-upper j level p ws b k w q t h l = w .bounded .upper q t l
 pub sweeping-least : (j : Job) (level p : ℕ) (ws b : List ℕ) (k : Totals) → level ≡ bound j ws p → Sweeping j (bound j ws p) p ws b k → j .minimum ≤ level
 sweeping-least j level p ws b k e w = omega (arith, w .long, e)
 
+pub sweeping-some : (j : Job) (level p : ℕ) (ws b : List ℕ) (k : Totals) → Sweeping j level p ws b k → 1 ≤ level
+sweeping-some j level p ws b k w = omega (arith, w .long, w .fits .least)
+
 pub sweeping-entered : (j : Job) (level p : ℕ) (ws b : List ℕ) (k : Totals) → level ≡ bound j ws p → Sweeping j (bound j ws p) p ws b k → Sweeping j level p ws b k
 sweeping-entered j level p ws b k e w = rw e w
 
@@ -103,8 +106,8 @@ sweeping-left j level from p ws ws' b' k' e w = rw e at w
 
 -- ---- all of them
 module _ (j : Job) (ws ws' b : List ℕ) (k : Totals) (r : Filled j ws ws') where
-  pub filled-ready : Fits j ws b k → length ws' ≡ length ws → Ready j ws' b k
-  filled-ready fits same = record { fits = unmoved-fits j ws ws' b k (r .same) same fits; upper = r .upper }
+  pub filled-ready : Fits j ws b k → Ready j ws' b k
+  filled-ready fits = record { fits = unmoved-fits j ws ws' b k (r .same) (r .space) fits; upper = r .upper }
 
   -- What is laid from there is laid from the start.
   pub filled-finished : (n : ℕ) (ws₂ b₂ : List ℕ) (k₂ : Totals) → Finished j n ws' b k ws₂ b₂ k₂ → Finished j n ws b k ws₂ b₂ k₂

@@ -1,21 +1,24 @@
 -- Searching a row. What was found so far is the longest of the runs before t, or the floor. A longer run at u has the pattern's word at that
 -- offset and at any before, so the positions that lack either of two can be passed over; and where too few words are left, no run is longer.
 -- Assumes nothing.
-use Prim.Native.Nat.{ℕ, _+_, _-_, _≤_, _<_, max}
-use native.Mathlib.Nat.{not-suc-le-zero}
+use Prim.Native.Nat.{ℕ, _+_, _-_, _≤_, _<_, min, max}
 use native.Mathlib.Decide.{decLe, decLt, ℕ-discrete}
 use native.Mathlib.Omega.{arith}
-use mathlib.Core.Path.{_≡_, sym, _∙_, subst}
+use mathlib.Core.Path.{_≡_, refl, sym, _∙_, subst}
+use mathlib.Core.Bool.{Bool, true, false, not}
 use mathlib.Core.List.{List}
+use borrow.Author.Tests.{eqb-true, eqb-false, not-true, not-false}
+use lib.Dec.{eqb}
 use lib.ListN.{length, take, drop, getD, length-drop}
 use lib.Seq.{getD-drop}
 use Rattle.symbol.specs.Word.{equalCalls}
 use Rattle.symbol.specs.Sequence.{Current}
+use Rattle.symbol.proofs.Word.{call-below, no-call-right}
 use Rattle.symbol.proofs.Retired.{match-equal}
 use Rattle.symbol.proofs.Sequence.{current-at, current-drop}
 use Rattle.tiling.specs.Run.{run, equalRun}
-use Rattle.tiling.proofs.Leading.{leading-within}
-use Rattle.tiling.proofs.Run.{run-within, run-match}
+use Rattle.tiling.proofs.Leading.{leading-within, leading-most}
+use Rattle.tiling.proofs.Run.{run-within, run-match, run-most, zero-left, zero-right}
 use Rattle.tiling.proofs.Replaced.{run-current}
 use Rattle.tile.specs.declared.TextAt.{TextAt}
 use Rattle.buffer.proofs.Buffer.{tail-is}
@@ -23,14 +26,66 @@ use Rattle.measure.specs.Block.{counted}
 use Rattle.measure.proofs.Longer.{counted-longer, counted-most}
 use Rattle.sweep.specs.Row.{Row, better, passedOver}
 use Rattle.chain.specs.First.{First}
+use Rattle.chain.specs.Chain.{Free}
 use Rattle.sweep.specs.declared.Found.{Found}
 use Rattle.plain.specs.Pair.{SideBySide}
 use Rattle.sweep.proofs.Row.{better-new, better-old}
 use Rattle.sweep.proofs.Passed.{passed-most, passed-shorter}
 
+-- ---- words that are not free
+pub free-run : (ps ts : List ℕ) (u : ℕ) → getD ts u 0 ≡ 0 → run ps (drop u ts) ≡ 0
+free-run ps ts u e =
+    let at : u + 0 ≡ u = omega arith in
+    let word : getD (drop u ts) 0 0 ≡ 0 = getD-drop u ts 0 0 ∙ rw at e in
+    omega (arith, run-most ps (drop u ts) 0 (rw word (zero-right (getD ps 0 0))))
+
+pub unfree-run : (ps ts : List ℕ) (u : ℕ) → (Free ts u → ⊥) → run ps (drop u ts) ≡ 0
+unfree-run ps ts u d = go (ℕ-discrete (getD ts u 0) 0)
+  where
+    go : Dec (getD ts u 0 ≡ 0) → run ps (drop u ts) ≡ 0
+    go (yes e) = free-run ps ts u e
+    go (no e) = absurd (d e)
+
+-- No run begins at such a word, nor after the last one.
+counted-zero : (best n : ℕ) → n ≡ 0 → 0 ≡ counted best n
+counted-zero best n e = omega (arith, counted-most best n)
+
+pub run-after : (ps ts : List ℕ) (best at : ℕ) → length ts ≤ at → 0 ≡ counted best (equalRun ps (drop at ts))
+run-after ps ts best at h = counted-zero best (equalRun ps (drop at ts)) (omega (arith, leading-within equalCalls ps (drop at ts), length-drop at ts))
+
+pub run-marked : (ps ts : List ℕ) (best at : ℕ) → getD ts at 0 ≡ 0 → 0 ≡ counted best (equalRun ps (drop at ts))
+run-marked ps ts best at e =
+    let here : at + 0 ≡ at = omega arith in
+    let word : getD (drop at ts) 0 0 ≡ 0 = getD-drop at ts 0 0 ∙ rw here e in
+    let other : equalCalls (getD ps 0 0) (getD (drop at ts) 0 0) ≡ false = rw word (no-call-right (getD ps 0 0) 0 (call-below 0 (omega arith))) in
+    counted-zero best (equalRun ps (drop at ts)) (omega (arith, leading-most equalCalls ps (drop at ts) 0 other))
+
+pub run-measured : (ps ts : List ℕ) (best at r : ℕ) → r ≡ counted best (equalRun ps (take (length ts - at) (drop at ts))) → r ≡ counted best (equalRun ps (drop at ts))
+run-measured ps ts best at r e = rw (tail-is at ts) at e
+
 -- So many that they can be counted.
-pub passed-small : (ps xs : List ℕ) (best c len skip : ℕ) → length ps ≤ 2048 → len ≡ counted best (equalRun ps xs) → skip ≡ passedOver c len → skip ≤ 2048
-passed-small ps xs best c len skip h e k = omega (arith, passed-most c len skip k, e, counted-most best (equalRun ps xs), leading-within equalCalls ps xs)
+pub counted-small : (ps xs : List ℕ) (best len : ℕ) → length ps ≤ 2048 → len ≡ counted best (equalRun ps xs) → len ≤ 2048
+counted-small ps xs best len h e = omega (arith, e, counted-most best (equalRun ps xs), leading-within equalCalls ps xs)
+
+pub passed-small : (c len skip : ℕ) → len ≤ 2048 → skip ≡ passedOver c len → skip ≤ 2048
+passed-small c len skip h k = omega (arith, passed-most c len skip k)
+
+pub start-from : (ts : List ℕ) (at c len skip from next : ℕ) → skip ≡ passedOver c len → from ≡ min (at + 1 + skip) (length ts) → First (Free ts) from (length ts) next → First (Free ts) (min (at + 1 + passedOver c len) (length ts)) (length ts) next
+start-from ts at c len skip from next e w f = rw (← e, ← w) f
+
+-- The search goes on further to the right.
+pub start-less : (Q : ℕ → Type 0) (ts : List ℕ) (t far r c len next : ℕ) → t + far < length ts → First Q t (length ts - far) r → First (Free ts) (min (r + 1 + passedOver c len) (length ts)) (length ts) next → length ts - next < length ts - t
+start-less Q ts t far r c len next h f g = omega (arith, f .least, g .least)
+
+pub start-within : (Q : ℕ → Type 0) (ts : List ℕ) (t far r : ℕ) → First Q t (length ts - far) r → r ≤ length ts
+start-within Q ts t far r f = omega (arith, f .within)
+
+module _ (ws : List ℕ) (i : ℕ) (r : Bool) (e : r ≡ not (eqb (getD ws i 0) 0)) where
+  pub marked-not : r ≡ true → getD ws i 0 ≡ 0 → ⊥
+  marked-not t = eqb-false (getD ws i 0) 0 (not-true _ (sym e ∙ t))
+
+  pub marked-is : r ≡ false → getD ws i 0 ≡ 0
+  marked-is t = eqb-true (getD ws i 0) 0 (not-false _ (sym e ∙ t))
 
 -- What is known of the two parts.
 pub record Parts (ps ts : List ℕ) : Type 0 where
@@ -41,26 +96,29 @@ pub record Parts (ps ts : List ℕ) : Type 0 where
 
 pub record Seen (ps ts : List ℕ) (floor t : ℕ) (f : Found) : Type 0 where
   pub parts : Parts ps ts
-  pub within : t ≤ length ts + 1
+  pub within : t ≤ length ts
   pub small : f .len ≤ 2048
   pub least : floor ≤ f .len
   pub most : (u : ℕ) → u < t → run ps (drop u ts) ≤ f .len
   pub long : floor < f .len → run ps (drop (f .t .0) ts) ≡ f .len
   pub first : floor < f .len → (u : ℕ) → u < f .t .0 → run ps (drop u ts) < f .len
 
-pub seen-none : (ps ts : List ℕ) (floor : ℕ) (a : TextAt) → floor ≤ 2048 → length ps ≤ 2048 → length ts ≤ 2048 → Current ps → Current ts → Seen ps ts floor 0 (record { t = a; len = floor })
-seen-none ps ts floor a h p t c d =
+pub seen-none : (ps ts : List ℕ) (floor t : ℕ) (a : TextAt) → floor ≤ 2048 → length ps ≤ 2048 → length ts ≤ 2048 → Current ps → Current ts → First (Free ts) 0 (length ts) t → Seen ps ts floor t (record { t = a; len = floor })
+seen-none ps ts floor t a h p l c d f =
     record {
-      parts = record { short-pattern = p; short-text = t; current-pattern = c; current-text = d };
-      within = omega arith;
+      parts = record { short-pattern = p; short-text = l; current-pattern = c; current-text = d };
+      within = f .within;
       small = h;
       least = omega arith;
-      most = λ u l. absurd (not-suc-le-zero l);
+      most = λ u b. omega (arith, unfree-run ps ts u (f .none u (omega arith) b));
       long = λ l. absurd (omega arith);
       first = λ l. absurd (omega arith);
     }
 
-module _ (ps ts : List ℕ) (floor t : ℕ) (f : Found) (near again r len skip : ℕ) (a : TextAt) (s : Seen ps ts floor t f) (order : near ≤ f .len) (h : f .len < length ps) (k : t + f .len < length ts) (c : First (SideBySide ts near (f .len) (getD ps near 0) (getD ps (f .len) 0)) t (length ts - f .len) r) (at : a .0 ≡ r) (e : len ≡ counted (f .len) (equalRun ps (take (length ts - r) (drop r ts)))) (ea : again ≡ equalRun ps (drop 1 ps)) (es : skip ≡ passedOver again len) where
+module _ (ps ts : List ℕ) (floor t : ℕ) (f : Found) (near again r len : ℕ) (a : TextAt) (s : Seen ps ts floor t f) (order : near ≤ f .len) (h : f .len < length ps) (k : t + f .len < length ts) (c : First (SideBySide ts near (f .len) (getD ps near 0) (getD ps (f .len) 0)) t (length ts - f .len) r) (at : a .0 ≡ r) (e : len ≡ counted (f .len) (equalRun ps (drop r ts))) (ea : again ≡ equalRun ps (drop 1 ps)) (next : ℕ) (en : First (Free ts) (min (r + 1 + passedOver again len) (length ts)) (length ts) next) where
+  abbrev skip : ℕ
+  skip = passedOver again len
+
   -- A run longer than what was found has both words.
   both : (u : ℕ) → f .len < run ps (drop u ts) → SideBySide ts near (f .len) (getD ps near 0) (getD ps (f .len) 0) u
   both u l = record { here = word near (omega arith); beyond = word (f .len) l }
@@ -80,35 +138,33 @@ module _ (ps ts : List ℕ) (floor t : ℕ) (f : Found) (near again r len skip :
       go (no m) (no d) = absurd (c .none u (omega (arith, m)) l (both u (omega (arith, d))))
 
   counted-run : len ≡ counted (f .len) (run ps (drop r ts))
-  counted-run = rw (tail-is r ts, run-current ps (drop r ts) (s .parts .current-pattern) (current-drop r ts (s .parts .current-text))) at e
+  counted-run = rw (run-current ps (drop r ts) (s .parts .current-pattern) (current-drop r ts (s .parts .current-text))) at e
 
   here : max (f .len) len ≡ max (f .len) (run ps (drop r ts))
   here = rw counted-run (counted-longer (f .len) (run ps (drop r ts)))
 
   skipped : (u : ℕ) → r < u → u < r + 1 + skip → run ps (drop u ts) < len
-  skipped = passed-shorter ps ts (s .parts .current-pattern) again ea r (f .len) len counted-run skip es
+  skipped = passed-shorter ps ts (s .parts .current-pattern) again ea r (f .len) len counted-run skip refl
 
-  reached : (n : ℕ) → f .len ≤ n → run ps (drop r ts) ≤ n → len ≤ n → (u : ℕ) → u < r + 1 + skip → run ps (drop u ts) ≤ n
-  reached n l m o u b = go (ℕ-discrete u r) (decLt u r)
+  -- Those after them that are passed over are not free.
+  reached : (n : ℕ) → f .len ≤ n → run ps (drop r ts) ≤ n → len ≤ n → (u : ℕ) → u < next → run ps (drop u ts) ≤ n
+  reached n l m o u b = go (ℕ-discrete u r) (decLt u r) (decLt u (r + 1 + skip))
     where
-      go : Dec (u ≡ r) → Dec (u < r) → run ps (drop u ts) ≤ n
-      go (yes q) c = rw q m
-      go (no d) (yes c) = omega (arith, before u c)
-      go (no d) (no c) = omega (arith, skipped u (omega (arith, c, d)) b)
+      go : Dec (u ≡ r) → Dec (u < r) → Dec (u < r + 1 + skip) → run ps (drop u ts) ≤ n
+      go (yes q) c k = rw q m
+      go (no d) (yes c) k = omega (arith, before u c)
+      go (no d) (no c) (yes k) = omega (arith, skipped u (omega (arith, c, d)) k)
+      go (no d) (no c) (no k) = omega (arith, unfree-run ps ts u (en .none u (omega (arith, k)) b))
 
-  -- The positions that are passed over are within the text.
-  room : r + 1 + skip ≤ length ts + 1
-  room = omega (arith, c .within, passed-most again len skip es, counted-run, counted-most (f .len) (run ps (drop r ts)), run-within ps (drop r ts), length-drop r ts)
-
-  seen-better : Seen ps ts floor (r + 1 + skip) (better f a len)
+  seen-better : Seen ps ts floor next (better f a len)
   seen-better = go (decLt (f .len) len)
     where
-      go : Dec (f .len < len) → Seen ps ts floor (r + 1 + skip) (better f a len)
+      go : Dec (f .len < len) → Seen ps ts floor next (better f a len)
       go (yes l) =
-          subst (λ g. Seen ps ts floor (r + 1 + skip) g) (better-new f a len l)
+          subst (λ g. Seen ps ts floor next g) (better-new f a len l)
           (record {
             parts = s .parts;
-            within = room;
+            within = en .within;
             small = omega (arith, here, run-within ps (drop r ts), s .parts .short-pattern);
             least = omega (arith, s .least);
             most = reached len (omega arith) (omega (arith, here)) (omega arith);
@@ -116,10 +172,10 @@ module _ (ps ts : List ℕ) (floor t : ℕ) (f : Found) (near again r len skip :
             first = λ m u b. omega (arith, before u (omega (arith, at)));
           })
       go (no l) =
-          subst (λ g. Seen ps ts floor (r + 1 + skip) g) (better-old f a len (omega (arith, l)))
+          subst (λ g. Seen ps ts floor next g) (better-old f a len (omega (arith, l)))
           (record {
             parts = s .parts;
-            within = room;
+            within = en .within;
             small = s .small;
             least = s .least;
             most = reached (f .len) (omega arith) (omega (arith, l, here)) (omega (arith, l));
@@ -127,8 +183,8 @@ module _ (ps ts : List ℕ) (floor t : ℕ) (f : Found) (near again r len skip :
             first = s .first;
           })
 
-  pub seen-more : (g : Found) → g ≡ better f a len → Seen ps ts floor (r + 1 + skip) g
-  seen-more g q = subst (λ x. Seen ps ts floor (r + 1 + skip) x) (sym q) seen-better
+  pub seen-more : (g : Found) → g ≡ better f a len → Seen ps ts floor next g
+  seen-more g q = subst (λ x. Seen ps ts floor next x) (sym q) seen-better
 
 -- At the end no run is longer: the pattern has no more words, or the text has none from t on.
 seen-end : (ps ts : List ℕ) (floor t : ℕ) (f : Found) → Seen ps ts floor t f → ((u : ℕ) → t ≤ u → run ps (drop u ts) ≤ f .len) → Row ps ts floor f
@@ -143,3 +199,7 @@ seen-pattern ps ts floor t f s h = seen-end ps ts floor t f s (λ u l. omega (ar
 
 pub seen-text : (ps ts : List ℕ) (floor t : ℕ) (f : Found) → Seen ps ts floor t f → length ts ≤ t + f .len → Row ps ts floor f
 seen-text ps ts floor t f s h = seen-end ps ts floor t f s (λ u l. omega (arith, run-within ps (drop u ts), length-drop u ts))
+
+-- The pattern's word at that offset is marked: no run goes on there.
+pub seen-marked : (ps ts : List ℕ) (floor t : ℕ) (f : Found) → Seen ps ts floor t f → getD ps (f .len) 0 ≡ 0 → Row ps ts floor f
+seen-marked ps ts floor t f s h = seen-end ps ts floor t f s (λ u l. run-most ps (drop u ts) (f .len) (rw h (zero-left (getD (drop u ts) (f .len) 0))))

@@ -1,6 +1,6 @@
 -- The parts of the workspace that a search reads. The pattern's part is cut after cap words: where no run exceeds cap, that changes none.
 -- Assumes nothing.
-use Prim.Native.Nat.{ℕ, _+_, _-_, _≤_, _<_, min}
+use Prim.Native.Nat.{ℕ, _+_, _-_, _*_, _≤_, _<_, min}
 use native.Mathlib.Omega.{arith}
 use mathlib.Core.Path.{_≡_, sym}
 use mathlib.Core.List.{List}
@@ -11,6 +11,7 @@ use Rattle.symbol.proofs.Sequence.{current-take, current-drop}
 use Rattle.buffer.proofs.Buffer.{rest-of-front}
 use Rattle.tiling.specs.Run.{run}
 use Rattle.tiling.proofs.Run.{run-within, run-match, run-least}
+use Rattle.chain.specs.Chain.{Chained}
 use Rattle.bounds.specs.Workspace.{Space, state}
 use Rattle.sweep.specs.Row.{Row}
 use Rattle.bounds.specs.declared.Job.{Job}
@@ -64,3 +65,10 @@ module _ (j : Job) (ws : List ℕ) (p cap least : ℕ) (s : Space j ws) (inside 
 -- No word of the text is a retired call.
 pub text-part : (j : Job) (ws : List ℕ) → Space j ws → Current (take (j .n + j .m - j .n) (drop (j .n) ws))
 text-part j ws s = let e : j .n + j .m - j .n ≡ j .m = omega arith in rw e (s .current .on-text)
+
+-- The chain of the text.
+pub chain-part : (j : Job) (ws : List ℕ) → Space j ws → Chained (take (j .n + j .m - j .n) (drop (j .n) ws)) (take (4 * (j .n + j .m) - (3 * (j .n + j .m) + j .n)) (drop (3 * (j .n + j .m) + j .n) ws))
+chain-part j ws s =
+    let e : j .n + j .m - j .n ≡ j .m = omega arith in
+    let d : 4 * (j .n + j .m) - (3 * (j .n + j .m) + j .n) ≡ j .m = omega arith in
+    rw (e, d) (s .on-text)

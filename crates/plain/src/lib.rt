@@ -1,5 +1,6 @@
 // The plain engine: any pair of positions may be looked at, and no hash.
 use bounds::Job;
+use bounds::Rows;
 use sweep::Found;
 use sweep::Goal;
 use sweep::Round;
@@ -8,42 +9,116 @@ use tile::PatternAt;
 use tile::TextAt;
 use tiling::Compared;
 ghost use mathlib.Core.Path.{_≡_};
-ghost use mathlib.Core.Bool.{false};
-ghost use Prim.Native.Nat.{_+_, _-_, _≤_, _<_};
-ghost use lib.ListN.{length, drop};
+ghost use mathlib.Core.Bool.{false, not};
+ghost use Prim.Native.Nat.{_+_, _-_, _≤_, _<_, min};
+ghost use lib.Dec.{eqb};
+ghost use lib.ListN.{length, drop, getD};
 ghost use Rattle.symbol.specs.Sequence.{Current};
+ghost use Rattle.tiling.specs.Run.{equalRun};
 ghost use Rattle.tiling.specs.Comparing.{plainRefusal, Comparable};
+ghost use Rattle.measure.specs.Block.{counted};
 ghost use Rattle.bounds.specs.Workspace.{Space, state, bound};
-ghost use Rattle.sweep.specs.Row.{Row};
+ghost use Rattle.sweep.specs.Row.{Row, passedOver};
 ghost use Rattle.chain.specs.First.{First};
+ghost use Rattle.chain.specs.Chain.{Free, Chained};
 ghost use Rattle.bounds.specs.Blocks.{Covering, Falling};
 ghost use Rattle.sweep.specs.Goal.{atGoal};
-ghost use Rattle.sweep.specs.Progress.{Fits, Searched, UpperFrom, RowBound, Filled, Ready, Sweeping, Over, Onward, Finished};
+ghost use Rattle.sweep.specs.Progress.{Fits, Searched, UpperFrom, RowBound, NextRows, FilledFrom, Filled, Ready, Sweeping, Over, Onward, Finished};
 ghost use Rattle.ends.specs.Result.{Room, Ran};
 ghost use Rattle.plain.specs.Promise.{Plain};
 ghost use Rattle.plain.specs.Bounds.{Capped, goesOn};
-ghost use Rattle.plain.specs.Pair.{SideBySide};
+ghost use Rattle.plain.specs.Pair.{SideBySide, Ahead};
+
+// Where the part of the text ends that is looked at as a whole from a position on: a few hundred words on, where the chain can be entered.
+fn part_end(from: usize, end: usize) -> usize
+    requires { ⌜ (from < end) × (end ≤ 2048) ⌝ }
+    ensures { λ r. ⌜ (from < r) × (r ≤ end) ⌝ }
+{
+    buffer::lesser(from / 32 * 32 + 512, end)
+}
+
+// Passes the positions from one on that lack either of two words, in one part of the text. Where all of them do, the chain leads on
+// from the end of the part: the second word is none of those that are passed over.
+fn pass_part(
+    text: &[u32],
+    chain: &[u32],
+    at: usize,
+    near: usize,
+    far: usize,
+    a: u32,
+    b: u32,
+) -> usize
+    requires { ⌜ Chained (now text) (now chain) × (b ≡ 0 → ⊥) × (near ≤ far) × (at + far < length (now text)) ⌝ }
+    ensures { λ r. ⌜ Ahead (now (text .entry)) near far a b at r ⌝ }
+{
+    let first = at + near;
+    let second = at + far;
+    let to = part_end(second, text.len());
+    let n = measure::positions_before(&text[first..], &text[second..to], a, b);
+    if n < to - second {
+        return at + n;
+    }
+    chain::free_from(text, chain, to) - far
+}
 
 // The first position of the text from `from` on with a so many words further on and b further still; else the end of those that have
 // a word so far on. With few codes it is often `from` itself.
-fn next_pair(text: &[u32], from: TextAt, near: usize, far: usize, a: u32, b: u32) -> TextAt
-    requires { ⌜ (near ≤ far) × (from .0 + far < length (now text)) ⌝ }
+fn next_pair(
+    text: &[u32],
+    chain: &[u32],
+    from: TextAt,
+    near: usize,
+    far: usize,
+    a: u32,
+    b: u32,
+) -> TextAt
+    requires { ⌜ Chained (now text) (now chain) × (b ≡ 0 → ⊥) × (near ≤ far) × (from .0 + far < length (now text)) ⌝ }
     ensures { λ r. ⌜ First (SideBySide (now (text .entry)) near far a b) (from .0) (length (now (text .entry)) - far) (r .0) ⌝ }
 {
-    let at = from.0;
-    let first = at + near;
-    let second = at + far;
-    if (text[first] == a) & (text[second] == b) {
-        return from;
+    let mut at = from.0;
+    while at + far < text.len() && (text[at + near] != a) | (text[at + far] != b) {
+        at = pass_part(text, chain, at, near, far, a, b);
     }
-    TextAt(at + measure::positions_before(&text[first..], &text[second..], a, b))
+    TextAt(at)
+}
+
+// Whether a word is not marked.
+fn is_free(words: &[u32], at: usize) -> bool
+    requires { ⌜ at < length (now words) ⌝ }
+    ensures { λ r. ⌜ r ≡ not (eqb (getD (now (words .entry)) at 0) 0) ⌝ }
+{
+    words[at] != 0
+}
+
+// The run at a position of the text, of which one longer than best is looked for. None begins at a word that is not free.
+fn run_at(pattern: &[u32], text: &[u32], at: TextAt, best: usize) -> usize
+    ensures { λ r. ⌜ r ≡ counted best (equalRun (now (pattern .entry)) (drop (at .0) (now (text .entry)))) ⌝ }
+{
+    let from = at.0;
+    if text.len() <= from {
+        return 0;
+    }
+    if text[from] == 0 {
+        return 0;
+    }
+    measure::measured_run(pattern, &text[from..], best)
+}
+
+// The next position of the chain after one with a run of len words, and after those that the run tells to have a shorter one.
+fn next_start(text: &[u32], chain: &[u32], at: TextAt, again: usize, len: usize) -> usize
+    requires { ⌜ Chained (now text) (now chain) × (at .0 ≤ length (now text)) × (len ≤ 2048) ⌝ }
+    ensures { λ r. ⌜ First (Free (now (text .entry))) (min (at .0 + 1 + passedOver again len) (length (now (text .entry)))) (length (now (text .entry))) r ⌝ }
+{
+    let from = at.0 + 1 + sweep::passed_over(again, len);
+    chain::free_from(text, chain, buffer::lesser(from, text.len()))
 }
 
 // The longest run of the row that pattern starts, where it is longer than floor, and the first position on the text that
 // has it. A run longer than what was found has the pattern's word at that offset, and the one where the last run that was measured
-// ended, so only the positions where both stand are looked at; and none within a run of one word again and again.
-fn row_search(pattern: &[u32], text: &[u32], floor: usize) -> Found
-    requires { ⌜ (floor ≤ 2048) × (length (now pattern) ≤ 2048) × (length (now text) ≤ 2048) × Current (now pattern) × Current (now text) ⌝ }
+// ended, so only the positions where both stand are looked at; and none within a run of one word again and again. Runs are measured
+// at positions of the chain.
+fn row_search(pattern: &[u32], text: &[u32], chain: &[u32], floor: usize) -> Found
+    requires { ⌜ (floor ≤ 2048) × (length (now pattern) ≤ 2048) × (length (now text) ≤ 2048) × Current (now pattern) × Current (now text) × Chained (now text) (now chain) ⌝ }
     ensures { λ r. ⌜ Row (now (pattern .entry)) (now (text .entry)) floor r ⌝ }
 {
     let mut found = Found {
@@ -52,14 +127,22 @@ fn row_search(pattern: &[u32], text: &[u32], floor: usize) -> Found
     };
     let again = sweep::repeats(pattern);
     let mut ended = 0;
-    let mut t = 0;
-    while found.len < pattern.len() && t + found.len < text.len() {
+    let mut t = chain::free_from(text, chain, 0);
+    while found.len < pattern.len() && t + found.len < text.len() && is_free(pattern, found.len) {
         let far = found.len;
-        let at = next_pair(text, TextAt(t), ended, far, pattern[ended], pattern[far]).0;
-        let len = measure::measured_run(pattern, &text[at..], far);
+        let at = next_pair(
+            text,
+            chain,
+            TextAt(t),
+            ended,
+            far,
+            pattern[ended],
+            pattern[far],
+        );
+        let len = run_at(pattern, text, at, far);
         ended = buffer::lesser(len, far);
-        found = sweep::keep(found, TextAt(at), len);
-        t = at + 1 + sweep::passed_over(again, len);
+        found = sweep::keep(found, at, len);
+        t = next_start(text, chain, at, again, len);
     }
     found
 }
@@ -73,7 +156,9 @@ fn search_row(ws: &[u32], job: Job, p: PatternAt, floor: usize, cap: usize) -> F
     let n = job.n;
     let to = from + buffer::lesser(cap, n - from);
     let end = n + job.m;
-    row_search(&ws[from..to], &ws[n..end], floor)
+    let links = 3 * (n + job.m) + n;
+    let all = 4 * (n + job.m);
+    row_search(&ws[from..to], &ws[n..end], &ws[links..all], floor)
 }
 
 // Whether the run at t of the row after p goes on with the words one position before it.
@@ -155,20 +240,33 @@ fn row_bound(ws: &[u32], job: Job, last: &mut usize, p: PatternAt, after: Found)
     capped(ws, job, last, p, after.t, cap)
 }
 
-// Sets the bound of each row, from the last to the first.
-fn fill_bounds(ws: &mut [u32], job: Job, last: &mut usize)
-    requires { ⌜ Space job (now ws) × (1 ≤ job .minimum) × (job .minimum ≤ 256) ⌝ }
-    ensures { λ r. ⌜ Filled job (now (ws .entry)) (now (ws .exit)) ⌝ }
+// Sets the bound of each row of a stretch, from the last to the first.
+fn fill_stretch(ws: &mut [u32], job: Job, last: &mut usize, part: Rows)
+    requires { ⌜ Space job (now ws) × NextRows job (now ws) (part .from .0) (part .to .0) × (1 ≤ job .minimum) × (job .minimum ≤ 256) ⌝ }
+    ensures { λ r. ⌜ FilledFrom job (now (ws .entry)) (now (ws .exit)) (part .from .0) ⌝ }
 {
     let mut after = Found {
         t: TextAt(0),
         len: 0,
     };
-    let mut p = job.n;
-    while 0 < p {
+    let from = part.from.0;
+    let mut p = part.to.0;
+    while from < p {
         p -= 1;
         after = row_bound(ws, job, last, PatternAt(p), after);
         bounds::set_bound(ws, job, PatternAt(p), after.len);
+    }
+}
+
+// Sets the bound of each free row, stretch by stretch, from the last to the first. The others have no run.
+fn fill_bounds(ws: &mut [u32], job: Job, last: &mut usize)
+    requires { ⌜ Space job (now ws) × (1 ≤ job .minimum) × (job .minimum ≤ 256) ⌝ }
+    ensures { λ r. ⌜ Filled job (now (ws .entry)) (now (ws .exit)) ⌝ }
+{
+    let mut part = bounds::rows_before(ws, job, PatternAt(job.n));
+    while 0 < part.to.0 {
+        fill_stretch(ws, job, last, part);
+        part = bounds::rows_before(ws, job, part.from);
     }
 }
 
@@ -249,7 +347,7 @@ fn sweep_rows(
     let mut p = bounds::next_row(ws, job, blocks, level, PatternAt(0));
     while p.0 < job.n && !sweep::at_goal(sum) {
         sum = step(ws, job, last, blocks, p, tiles, sum);
-        p = bounds::next_row(ws, job, blocks, level, PatternAt(p.0 + 1));
+        p = bounds::later_row(ws, job, blocks, level, p);
     }
     sum
 }

@@ -21,7 +21,10 @@ same-length-2 : tie.Need-same-length-2
 same-length-2 c = search needs
 
 returns : tie.Need-returns
-returns c = search ended
+returns c =
+    let opened = c .before .before .before .before .before .before .before .before .before .before in
+    let start = opened .before .before .before .before .before .before in
+    search (ended, start .pre .0, start .pre .1)
 
 pub lay-spec : {M : Type 1} → statement M
 lay-spec =

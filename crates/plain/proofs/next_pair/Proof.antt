@@ -1,88 +1,76 @@
--- `plain::next_pair` meets its contract: the words stand at once, or the positions of what is left of the text that lack either are passed.
+-- `plain::next_pair` meets its contract: at the head of each turn no position from `from` up to `at` has both words.
 -- Assumes nothing.
-use native.Mathlib.Omega.{arith}
-use Rattle.plain.proofs.Next.{next-here, next-within, next-first}
+use Prim.Native.Nat.{_-_}
+use lib.ListN.{length}
+use Rattle.chain.specs.First.{Passing}
+use Rattle.chain.proofs.First.{passing-none, first-none}
+use Rattle.plain.specs.Pair.{SideBySide}
+use Rattle.plain.proofs.Next.{pair-less, pair-ahead, pair-here}
 use borrow.Author.Needs.{needs}
 use Rattle.plain.proofs.next_pair.Statement.{statement}
 use Rattle.plain.proofs.next_pair.Tie as tie
 
-add-first : tie.Need-add-first
-add-first c = search needs
+abbrev Inv-loop : tie.InvT-loop
+Inv-loop text chain near far a b at₀ at = Passing (SideBySide text near far a b) at₀ (length text - far) at
 
-add-second : tie.Need-add-second
-add-second c = search needs
+abbrev μ-loop : tie.MeasureT-loop
+μ-loop text chain near far a b at₀ at = length text - at
 
-mul-if1 : tie.Need-mul-if1
+loop-holds : tie.Need-loop-holds Inv-loop μ-loop
+loop-holds c = search (passing-none, needs)
+
+add-loop : tie.Need-add-loop Inv-loop μ-loop
+add-loop c = search needs
+
+add-if1 : tie.Need-add-if1 Inv-loop μ-loop
+add-if1 c = search needs
+
+mul-if1 : tie.Need-mul-if1 Inv-loop μ-loop
 mul-if1 c = search needs
 
-shared-slice-read-if1 : tie.Need-shared-slice-read-if1
+shared-slice-read-if1 : tie.Need-shared-slice-read-if1 Inv-loop μ-loop
 shared-slice-read-if1 c = search needs
 
-mul-if1-2 : tie.Need-mul-if1-2
+add-if1-2 : tie.Need-add-if1-2 Inv-loop μ-loop
+add-if1-2 c = search needs
+
+mul-if1-2 : tie.Need-mul-if1-2 Inv-loop μ-loop
 mul-if1-2 c = search needs
 
-shared-slice-read-if1-2 : tie.Need-shared-slice-read-if1-2
+shared-slice-read-if1-2 : tie.Need-shared-slice-read-if1-2 Inv-loop μ-loop
 shared-slice-read-if1-2 c = search needs
 
-returns : tie.Need-returns
-returns c = search next-here
+pass-part-requires : tie.Need-pass-part-requires Inv-loop μ-loop
+pass-part-requires c κs = search needs
 
-mul-positions-before : tie.Need-mul-positions-before
-mul-positions-before c = search needs
+loop-less : tie.Need-loop-less Inv-loop μ-loop
+loop-less c = search pair-less
 
-sub-positions-before : tie.Need-sub-positions-before
-sub-positions-before c = search needs
+loop-again : tie.Need-loop-again Inv-loop μ-loop
+loop-again c = search pair-ahead
 
-part-positions-before-start : tie.Need-part-positions-before-start
-part-positions-before-start c = search needs
+returns : tie.Need-returns Inv-loop μ-loop
+returns c = search pair-here
 
-part-positions-before-end : tie.Need-part-positions-before-end
-part-positions-before-end c = search needs
-
-mul-positions-before-2 : tie.Need-mul-positions-before-2
-mul-positions-before-2 c = search needs
-
-sub-positions-before-2 : tie.Need-sub-positions-before-2
-sub-positions-before-2 c = search needs
-
-part-positions-before-start-2 : tie.Need-part-positions-before-start-2
-part-positions-before-start-2 c = search needs
-
-part-positions-before-end-2 : tie.Need-part-positions-before-end-2
-part-positions-before-end-2 c = search needs
-
-positions-before-requires : tie.Need-positions-before-requires
-positions-before-requires c κs = search needs
-
-add-t28 : tie.Need-add-t28
-add-t28 c =
-    let s = c .before .before .before .before .before .before .before in
-    record { fits = omega (arith, next-within (s .args .text .now) (s .args .from .0) (s .args .near) (s .args .far) (s .args .a) (s .args .b) (c .positions-before .result) (search needs) (search needs) (c .positions-before .ensures)) }
-
-returns-2 : tie.Need-returns-2
-returns-2 c =
-    let s = c .before .before .before .before .before .before .before in
-    next-first (s .args .text .now) (s .args .from .0) (s .args .near) (s .args .far) (s .args .a) (s .args .b) (c .positions-before .result) (search needs) (search needs) (c .positions-before .ensures)
+returns-2 : tie.Need-returns-2 Inv-loop μ-loop
+returns-2 c = search (first-none, needs)
 
 pub next-pair-spec : {M : Type 1} → statement M
 next-pair-spec =
     tie.close
     (tie.spec
-    add-first
-    add-second
+    Inv-loop
+    μ-loop
+    loop-holds
+    add-loop
+    add-if1
     mul-if1
     shared-slice-read-if1
+    add-if1-2
     mul-if1-2
     shared-slice-read-if1-2
+    pass-part-requires
+    loop-less
+    loop-again
     returns
-    mul-positions-before
-    sub-positions-before
-    part-positions-before-start
-    part-positions-before-end
-    mul-positions-before-2
-    sub-positions-before-2
-    part-positions-before-start-2
-    part-positions-before-end-2
-    positions-before-requires
-    add-t28
     returns-2)

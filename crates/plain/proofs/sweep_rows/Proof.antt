@@ -4,6 +4,7 @@ use Prim.Native.Nat.{_-_}
 use borrow.Author.Tests.{not-true, not-false}
 use Rattle.chain.proofs.First.{first-rises}
 use Rattle.sweep.proofs.Turn.{few-covered, few-fillable, going-on, Swept, swept-none, swept-row, swept-more, swept-all, swept-goal}
+use Rattle.plain.proofs.Fill.{sweeping-some}
 use borrow.Author.Needs.{needs}
 use Rattle.plain.proofs.sweep_rows.Statement.{statement}
 use Rattle.plain.proofs.sweep_rows.Tie as tie
@@ -26,11 +27,11 @@ at-goal-requires c κs = (search few-covered, search few-fillable)
 step-requires : tie.Need-step-requires Inv-loop μ-loop
 step-requires c κs = (search swept-row, search (going-on, not-true), search needs, search needs)
 
-add-t26 : tie.Need-add-t26 Inv-loop μ-loop
-add-t26 c = search needs
-
-next-row-requires-2 : tie.Need-next-row-requires-2 Inv-loop μ-loop
-next-row-requires-2 c κs = search needs
+later-row-requires : tie.Need-later-row-requires Inv-loop μ-loop
+later-row-requires c κs =
+    let d = c .before .before .before .before .before .before .before .before in
+    let i = d .before .before .before .before .before .before .before .before .loop .inv in
+    (search needs, search needs, search needs, sweeping-some _ _ _ _ _ _ (i .sweeping))
 
 loop-less : tie.Need-loop-less Inv-loop μ-loop
 loop-less c = search first-rises
@@ -66,8 +67,7 @@ sweep-rows-spec =
     loop-holds
     at-goal-requires
     step-requires
-    add-t26
-    next-row-requires-2
+    later-row-requires
     loop-less
     loop-again
     same-length

@@ -11,7 +11,7 @@ prepare-requires c κs = search needs
 lay-all-requires : tie.Need-lay-all-requires
 lay-all-requires c κs =
     let d = c .before .before .before .before .before in
-    (filled-ready _ _ _ _ _ (d .before .prepare .ensures .0) (search needs) (d .ws .given), search needs)
+    (filled-ready _ _ _ _ _ (d .before .prepare .ensures .0) (search needs), search needs)
 
 same-length : tie.Need-same-length
 same-length c = search needs
