@@ -51,9 +51,6 @@ free-within j ws t =
     let rest = drop t (state j ws .text) in
     omega (arith, run-within rest rest, length-drop t (state j ws .text), length-take (j .m) (drop (j .n) ws))
 
-pub free-end : (j : Job) (ws : List ℕ) → 0 ≡ freeAt j ws (j .m)
-free-end j ws = omega (arith, free-within j ws (j .m))
-
 -- What is free is so by the sequences alone.
 pub free-same : (j : Job) (ws ws' : List ℕ) (u : ℕ) → state j ws' ≡ state j ws → freeAt j ws' u ≡ freeAt j ws u
 free-same j ws ws' u e = ap (λ (x : State). run (drop u (x .text)) (drop u (x .text))) e

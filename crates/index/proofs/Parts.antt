@@ -1,12 +1,11 @@
 -- A part of the two sequences is hashed. The hashes stand past both sequences and before the bounds, each as far from its word as all are, so
 -- all else in the workspace is as it was.
 -- Assumes nothing.
-use Prim.Native.Nat.{ℕ, _+_, _-_, _*_, _≤_, _<_}
-use native.Mathlib.Decide.{decLt}
+use Prim.Native.Nat.{ℕ, _+_, _-_, _≤_, _<_}
 use native.Mathlib.Omega.{arith}
 use mathlib.Core.Path.{_≡_, refl, sym, _∙_, ap}
 use mathlib.Core.List.{List, _++_, append-assoc, append-nil}
-use lib.ListN.{length, take, drop, getD, length-append, length-drop, length-take, List·getD-append}
+use lib.ListN.{length, take, drop, getD, length-append, length-drop, List·getD-append}
 use lib.Seq.{length-take-le, take-take, take-add, drop-drop, getD-append-add, getD-take, getD-drop, ext-getD}
 use Rattle.buffer.specs.Buffer.{onto}
 use Rattle.buffer.proofs.Buffer.{rest-of-front, length-onto, tail-is}
@@ -14,11 +13,10 @@ use Rattle.tile.proofs.Tail.{tail-last}
 use Rattle.window.specs.Hash.{wordsHash}
 use Rattle.window.specs.HashList.{hashesBy, hashAt}
 use Rattle.window.proofs.HashList.{length-hashes, getD-hashes, hash-current}
-use Rattle.symbol.specs.Sequence.{Current}
 use Rattle.bounds.specs.Workspace.{Space, state, boundsFrom, chainsFrom}
 use Rattle.bounds.specs.declared.Job.{Job}
 use Rattle.bounds.proofs.Workspace.{front-state, space-kept}
-use Rattle.index.specs.Indexed.{Ranges, link}
+use Rattle.index.specs.Indexed.{Ranges}
 use Rattle.index.specs.Built.{PartHashed}
 use Rattle.index.specs.declared.Pass.{Pass}
 

@@ -14,7 +14,6 @@ use lib.Seq.{getD-set-other}
 use Rattle.tiling.specs.Stretch.{freeFirst}
 use Rattle.tiling.specs.Tiling.{State}
 use Rattle.window.specs.HashList.{hashAt}
-use Rattle.chain.specs.Chain.{Free}
 use Rattle.chain.specs.Stretches.{StretchBefore}
 use Rattle.bounds.specs.Workspace.{Space, state}
 use Rattle.bounds.specs.declared.Job.{Job}

@@ -1,11 +1,11 @@
 -- From one stretch of free words to the one before it. The word before a stretch is not free, so the stretch before it ends at a marked word.
 -- Assumes nothing.
-use Prim.Native.Nat.{ℕ, _+_, _-_, _≤_, _<_}
+use Prim.Native.Nat.{ℕ, _-_, _≤_, _<_}
 use native.Mathlib.Decide.{ℕ-discrete}
 use native.Mathlib.Omega.{arith}
 use mathlib.Core.Path.{_≡_}
 use mathlib.Core.List.{List}
-use lib.ListN.{length, getD, List·getD-eq-default}
+use lib.ListN.{length, List·getD-eq-default}
 use Rattle.chain.specs.Chain.{Free}
 use Rattle.chain.specs.Stretches.{StretchBefore}
 use Rattle.index.specs.Built.{Stretched}

@@ -5,7 +5,7 @@ use Prim.Native.Nat.{ℕ, _+_, _-_, _≤_, _<_}
 use native.Mathlib.Decide.{decLt}
 use native.Mathlib.Omega.{arith}
 use mathlib.Core.Path.{_≡_, refl, sym, _∙_, ap, subst}
-use mathlib.Core.Bool.{Bool, true, false, _&&_}
+use mathlib.Core.Bool.{true, false, _&&_}
 use mathlib.Core.List.{List}
 use lib.Dec.{eqb}
 use lib.ListN.{length, getD, replicate, getD-replicate}
@@ -17,7 +17,7 @@ use Rattle.bounds.specs.Workspace.{Space, state, boundsFrom}
 use Rattle.bounds.specs.declared.Job.{Job}
 use Rattle.bounds.proofs.Workspace.{pattern-length, text-length}
 use Rattle.index.specs.Indexed.{patternHash, textHash, link, slot, Ranges}
-use Rattle.index.specs.Built.{freeAt, AllFree, raisedFrom, listed, inBucket, nextIn, linkedFrom, entryOf, PartHashed, Stretched, RowsFrom, LinkedFrom, Linked, TextsFrom}
+use Rattle.index.specs.Built.{freeAt, AllFree, raisedFrom, listed, inBucket, nextIn, entryOf, PartHashed, Stretched, RowsFrom, LinkedFrom, Linked, TextsFrom}
 use Rattle.index.specs.declared.Pass.{Pass}
 use Rattle.index.proofs.First.{next-none, next-skip, some-none, some-skip}
 use Rattle.index.proofs.Free.{Busy, busy-by, busy-text, busy-listed, not-free}

@@ -10,7 +10,7 @@ use mathlib.Core.Path.{_≡_, refl, sym, _∙_, ap}
 use mathlib.Core.Bool.{not}
 use mathlib.Core.List.{List, [], _∷_, _++_, map}
 use lib.Dec.{eqb, ltb}
-use lib.ListN.{length, take, drop, getD, set, length-drop, length-map, length-set, length-take, take-append-drop}
+use lib.ListN.{length, take, drop, getD, set, length-drop, length-map, length-set, take-append-drop}
 use lib.Seq.{take-suc, drop-cons, getD-drop, length-take-le, take-take, getD-take, take-set-le, getD-set-same, getD-set-other}
 use borrow.Author.Tests.{eqb-false, ltb-false}
 use Rattle.symbol.specs.Word.{replaced}
