@@ -1,104 +1,149 @@
--- The next position of the text that has two words, so far on each. The positions of one part that lack either are passed over; where all of
--- them do, so are the words after it that are not free, since the second word is not 0.
+-- The next position of the text that has two words, so far on each. The second is looked for part after part. The words before a part that are
+-- not free are passed over, since it is not 0.
 -- Assumes nothing.
 use Prim.Native.Nat.{ℕ, _+_, _-_, _≤_, _<_, min}
 use native.Mathlib.Decide.{decLt}
 use native.Mathlib.Omega.{arith}
-use mathlib.Core.Path.{_≡_, refl, sym, _∙_, ap}
-use mathlib.Core.Bool.{Bool, true, false, not, _||_}
+use mathlib.Core.Path.{_≡_, sym, _∙_, ap}
+use mathlib.Core.Bool.{true, _&&_}
 use mathlib.Core.List.{List}
-use borrow.Author.Tests.{eqb-true, eq-eqb}
+use borrow.Author.Tests.{eqb-true}
+use lib.Dec.{eqb}
 use lib.ListN.{length, take, drop, getD, length-take, length-drop}
 use lib.Seq.{getD-take, getD-drop}
+use Rattle.symbol.proofs.Word.{and-left, and-right}
 use Rattle.tiling.proofs.Leading.{leading-within}
 use Rattle.measure.specs.Before.{otherThan, before}
 use Rattle.measure.proofs.Before.{before-passes, before-found}
 use Rattle.buffer.proofs.Buffer.{tail-is}
-use Rattle.chain.specs.First.{First, Passing}
+use Rattle.chain.specs.First.{First}
 use Rattle.chain.specs.Chain.{Free}
-use Rattle.chain.proofs.First.{passing-to, first-at}
-use Rattle.plain.specs.Pair.{SideBySide, Ahead}
+use Rattle.plain.specs.Pair.{SideBySide, Looked}
+
+-- The words stand at once.
+pub next-here : (ts : List ℕ) (from near far a b : ℕ) → from + far < length ts → (eqb (getD ts (from + near) 0) a && eqb (getD ts (from + far) 0) b) ≡ true → First (SideBySide ts near far a b) from (length ts - far) from
+next-here ts from near far a b h e =
+    record {
+      least = omega arith;
+      within = omega arith;
+      none = λ i l m. absurd (omega arith);
+      stops = λ l. record { here = eqb-true _ _ (and-left _ _ e); beyond = eqb-true _ _ (and-right (eqb (getD ts (from + near) 0) a) _ e) };
+    }
 
 -- ---- one part
-module _ (ts : List ℕ) (at near far a b to n : ℕ) (order : near ≤ far) (h : at + far < length ts) (low : at + far < to) (high : to ≤ length ts) (e : n ≡ before a b (take (length ts - (at + near)) (drop (at + near) ts)) (take (to - (at + far)) (drop (at + far) ts))) where
+-- As many positions as the part has words.
+both-ends : (ts : List ℕ) (first second to : ℕ) → first ≤ second → to ≤ length ts → min (length (drop first ts)) (length (take (to - second) (drop second ts))) ≡ to - second
+both-ends ts first second to h l =
+    let a : length (take (to - second) (drop second ts)) ≡ to - second = rw (length-take, length-drop) (omega arith) in
+    rw (a, length-drop first ts) (omega arith)
+
+module _ (ts : List ℕ) (near far a b second to n : ℕ) (order : near ≤ far) (deep : far ≤ second) (low : min (second + 1) (length ts) ≤ to) (high : to ≤ length ts) (e : n ≡ before a b (take (length ts - (second - far + near)) (drop (second - far + near) ts)) (take (to - second) (drop second ts))) where
+  abbrev at : ℕ
+  at = second - far
+
   abbrev firsts : List ℕ
   firsts = drop (at + near) ts
 
   abbrev seconds : List ℕ
-  seconds = take (to - (at + far)) (drop (at + far) ts)
+  seconds = take (to - second) (drop second ts)
 
   passed : n ≡ before a b firsts seconds
   passed = rw (tail-is (at + near) ts) at e
 
-  -- As many positions as the part has words.
-  ends : min (length firsts) (length seconds) ≡ to - (at + far)
-  ends = omega (arith, length-drop (at + near) ts, length-take (to - (at + far)) (drop (at + far) ts), length-drop (at + far) ts)
+  ends : min (length firsts) (length seconds) ≡ to - second
+  ends = both-ends ts (at + near) second to (omega arith) high
 
-  pub part-within : n ≤ to - (at + far)
-  part-within = omega (arith, passed, ends, leading-within (otherThan a b) firsts seconds)
+  most : n ≤ to - second
+  most = omega (arith, passed, ends, leading-within (otherThan a b) firsts seconds)
 
   first-word : (i : ℕ) → getD firsts i 0 ≡ getD ts (at + i + near) 0
   first-word i = let same : at + near + i ≡ at + i + near = omega arith in getD-drop (at + near) ts i 0 ∙ ap (λ (k : ℕ). getD ts k 0) same
 
-  second-word : (i : ℕ) → i < to - (at + far) → getD seconds i 0 ≡ getD ts (at + i + far) 0
+  second-word : (i : ℕ) → i < to - second → getD seconds i 0 ≡ getD ts (at + i + far) 0
   second-word i l =
-      let same : at + far + i ≡ at + i + far = omega arith in
-      getD-take (to - (at + far)) (drop (at + far) ts) i 0 l ∙ (getD-drop (at + far) ts i 0 ∙ ap (λ (k : ℕ). getD ts k 0) same)
+      let same : second + i ≡ at + i + far = omega arith in
+      getD-take (to - second) (drop second ts) i 0 l ∙ (getD-drop second ts i 0 ∙ ap (λ (k : ℕ). getD ts k 0) same)
 
-  lacking : (i : ℕ) → at ≤ i → i < at + n → SideBySide ts near far a b i → ⊥
-  lacking i l m s =
-      let here : at + (i - at) ≡ i = omega arith in
-      before-passes a b firsts seconds (i - at) (omega (arith, passed))
-      (first-word (i - at) ∙ rw here (s .here))
-      (second-word (i - at) (omega (arith, part-within)) ∙ rw here (s .beyond))
-
-  pub part-found : n < to - (at + far) → Ahead ts near far a b at (at + n)
-  part-found l = record { within = omega arith; least = omega arith; none = lacking; moves = λ d. moves d (decLt 0 n) }
+  pub part-looked : second ≤ length ts → Looked ts near far a b second (at + n) to
+  part-looked h =
+      record { further = low; within = high; least = omega arith; inside = omega (arith, most); none = λ k l m. none k (omega arith) m; stands = λ l. stands (omega arith) }
     where
-      stands : SideBySide ts near far a b (at + n)
-      stands =
-          let f = before-found a b firsts seconds (omega (arith, passed, ends)) in
-          record { here = sym (first-word n) ∙ rw passed (f .0); beyond = sym (second-word n l) ∙ rw passed (f .1) }
+      none : (i : ℕ) → at ≤ i → i < at + n → SideBySide ts near far a b i → ⊥
+      none i l m s =
+          let here : at + (i - at) ≡ i = omega arith in
+          before-passes a b firsts seconds (i - at) (omega (arith, passed))
+          (first-word (i - at) ∙ rw here (s .here))
+          (second-word (i - at) (omega (arith, most)) ∙ rw here (s .beyond))
 
-      moves : (SideBySide ts near far a b at → ⊥) → Dec (0 < n) → at < at + n
-      moves d (yes k) = omega arith
-      moves d (no k) = let z : at + n ≡ at = omega (arith, k) in absurd (d (rw z at stands))
+      stands : n < to - second → SideBySide ts near far a b (at + n)
+      stands l =
+          let g = before-found a b firsts seconds (omega (arith, passed, ends)) in
+          record { here = sym (first-word n) ∙ rw passed (g .0); beyond = sym (second-word n l) ∙ rw passed (g .1) }
 
-  pub part-lacks : to - (at + far) ≤ n → (b ≡ 0 → ⊥) → (next : ℕ) → First (Free ts) to (length ts) next → Ahead ts near far a b at (next - far)
-  part-lacks l d next f =
-      record {
-        within = omega (arith, f .within, f .least);
-        least = omega (arith, f .least);
-        none = λ i k m s. none i k m s (decLt i (at + n));
-        moves = λ k. omega (arith, f .least);
-      }
-    where
-      none : (i : ℕ) → at ≤ i → i < next - far → SideBySide ts near far a b i → Dec (i < at + n) → ⊥
-      none i k m s (yes c) = lacking i k c s
-      none i k m s (no c) = f .none (i + far) (omega (arith, c)) (omega arith) (λ z. d (sym (s .beyond) ∙ z))
+-- From the first free word on.
+pub looked-on : (ts : List ℕ) (near far a b from second i to : ℕ) → (b ≡ 0 → ⊥) → First (Free ts) from (length ts) second → Looked ts near far a b second i to → Looked ts near far a b from i to
+looked-on ts near far a b from second i to d f l =
+    record {
+      further = omega (arith, f .least, l .further);
+      within = l .within;
+      least = omega (arith, f .least, l .least);
+      inside = l .inside;
+      none = λ k h m s. none k h m s (decLt (k + far) second);
+      stands = l .stands;
+    }
+  where
+    none : (k : ℕ) → from ≤ k + far → k < i → SideBySide ts near far a b k → Dec (k + far < second) → ⊥
+    none k h m s (yes c) = f .none (k + far) h c (λ z. d (sym (s .beyond) ∙ z))
+    none k h m s (no c) = l .none k (omega (arith, c)) m s
+
+pub passed-few : (ts ys : List ℕ) (first a b n : ℕ) → n ≡ before a b (take (length ts - first) (drop first ts)) ys → n ≤ length ts
+passed-few ts ys first a b n e =
+    omega (arith, e, leading-within (otherThan a b) (take (length ts - first) (drop first ts)) ys, length-take (length ts - first) (drop first ts))
 
 -- ---- part after part
-neither : (s t : Bool) → (not s || not t) ≡ false → (s ≡ true) × (t ≡ true)
-neither true true e = (refl, refl)
-neither true false e = let z : true ≡ false = e in (refl, cc)
-neither false t e = let z : true ≡ false = e in (cc, cc)
+pub record Nearing (ts : List ℕ) (near far a b from at to : ℕ) : Type 0 where
+  pub least : from ≤ at
+  pub within : to ≤ length ts
+  pub inside : at + far ≤ to
+  pub none : (k : ℕ) → from ≤ k → k < at → SideBySide ts near far a b k → ⊥
+  pub stands : at + far < to → SideBySide ts near far a b at
 
-module _ (ts : List ℕ) (near far a b from at : ℕ) where
-  lacks-here : otherThan a b (getD ts (at + near) 0) (getD ts (at + far) 0) ≡ true → SideBySide ts near far a b at → ⊥
-  lacks-here t s =
-      let f : otherThan a b (getD ts (at + near) 0) (getD ts (at + far) 0) ≡ false = rw (eq-eqb _ _ (s .here), eq-eqb _ _ (s .beyond)) refl in
-      let y : true ≡ false = sym t ∙ f in
-      let z : _≡_ {A = ℕ} 0 1 = cc in
-      omega arith
+pub nearing-first : (ts : List ℕ) (near far a b from at to : ℕ) → Looked ts near far a b (from + far) at to → Nearing ts near far a b from at to
+nearing-first ts near far a b from at to l =
+    record {
+      least = omega (arith, l .least);
+      within = l .within;
+      inside = l .inside;
+      none = λ k h m. l .none k (omega arith) m;
+      stands = l .stands;
+    }
 
-  pub pair-less : otherThan a b (getD ts (at + near) 0) (getD ts (at + far) 0) ≡ true → at + far < length ts → (r : ℕ) → Ahead ts near far a b at r → length ts - r < length ts - at
-  pair-less t h r d = omega (arith, d .moves (lacks-here t), d .within)
+module _ (ts : List ℕ) (near far a b from at to : ℕ) (p : Nearing ts near far a b from at to) where
+  pub nearing-more : at + far ≡ to → (i to' : ℕ) → Looked ts near far a b to i to' → Nearing ts near far a b from i to'
+  nearing-more e i to' l =
+      record {
+        least = omega (arith, p .least, l .least);
+        within = l .within;
+        inside = l .inside;
+        none = λ k h m s. none k h m s (decLt k at);
+        stands = l .stands;
+      }
+    where
+      none : (k : ℕ) → from ≤ k → k < i → SideBySide ts near far a b k → Dec (k < at) → ⊥
+      none k h m s (yes c) = p .none k h c s
+      none k h m s (no c) = l .none k (omega (arith, c)) m s
 
-  module _ (p : Passing (SideBySide ts near far a b) from (length ts - far) at) where
-    pub pair-ahead : (r : ℕ) → Ahead ts near far a b at r → Passing (SideBySide ts near far a b) from (length ts - far) r
-    pair-ahead r d = passing-to (SideBySide ts near far a b) from (length ts - far) at p r (d .least) (omega (arith, d .within)) (d .none)
+  pub nearing-found : (at + far ≡ to → ⊥) → First (SideBySide ts near far a b) from (length ts - far) at
+  nearing-found d =
+      record {
+        least = p .least;
+        within = omega (arith, p .inside, p .within);
+        none = p .none;
+        stops = λ l. p .stands (omega (arith, p .inside, d));
+      }
 
-    pub pair-here : otherThan a b (getD ts (at + near) 0) (getD ts (at + far) 0) ≡ false → First (SideBySide ts near far a b) from (length ts - far) at
-    pair-here f =
-        let z = neither _ _ f in
-        first-at (SideBySide ts near far a b) from (length ts - far) at p (record { here = eqb-true _ _ (z .0); beyond = eqb-true _ _ (z .1) })
+  pub nearing-end : at + far ≡ to → length ts ≤ to → First (SideBySide ts near far a b) from (length ts - far) at
+  nearing-end e h = record { least = p .least; within = omega (arith, p .within); none = p .none; stops = λ l. absurd (omega arith) }
+
+pub looked-less : (ts : List ℕ) (near far a b from i to : ℕ) → from < length ts → Looked ts near far a b from i to → length ts - to < length ts - from
+looked-less ts near far a b from i to h l = omega (arith, l .further)

@@ -27,38 +27,52 @@ ghost use Rattle.sweep.specs.Progress.{Fits, Searched, UpperFrom, RowBound, Nex
 ghost use Rattle.ends.specs.Result.{Room, Ran};
 ghost use Rattle.plain.specs.Promise.{Plain};
 ghost use Rattle.plain.specs.Bounds.{Capped, goesOn};
-ghost use Rattle.plain.specs.Pair.{SideBySide, Ahead};
+ghost use Rattle.plain.specs.Pair.{SideBySide, Looked};
+
+// A position of the text, and where the part ends in which the second of two words was looked for: where it was found, it stands in that part.
+struct Part {
+    at: usize,
+    to: usize,
+}
 
 // Where the part of the text ends that is looked at as a whole from a position on: a few hundred words on, where the chain can be entered.
 fn part_end(from: usize, end: usize) -> usize
-    requires { ⌜ (from < end) × (end ≤ 2048) ⌝ }
-    ensures { λ r. ⌜ (from < r) × (r ≤ end) ⌝ }
+    requires { ⌜ (from ≤ end) × (end ≤ 2048) ⌝ }
+    ensures { λ r. ⌜ (min (from + 1) end ≤ r) × (r ≤ end) ⌝ }
 {
     buffer::lesser(from / 32 * 32 + 512, end)
 }
 
-// Passes the positions from one on that lack either of two words, in one part of the text. Where all of them do, the chain leads on
-// from the end of the part: the second word is none of those that are passed over.
-fn pass_part(
+// Looks for the second of two words in one part of the text.
+fn look(text: &[u32], second: usize, near: usize, far: usize, a: u32, b: u32) -> Part
+    requires { ⌜ (near ≤ far) × (far ≤ second) × (second ≤ length (now text)) × (length (now text) ≤ 2048) ⌝ }
+    ensures { λ r. ⌜ Looked (now (text .entry)) near far a b second (r .at) (r .to) ⌝ }
+{
+    let to = part_end(second, text.len());
+    let at = second - far;
+    let first = at + near;
+    let passed = measure::positions_before(&text[first..], &text[second..to], a, b);
+    Part {
+        at: at + passed,
+        to,
+    }
+}
+
+// The same from the first free word on: those before it are 0, and so none of them is the second word.
+fn look_on(
     text: &[u32],
     chain: &[u32],
-    at: usize,
+    from: usize,
     near: usize,
     far: usize,
     a: u32,
     b: u32,
-) -> usize
-    requires { ⌜ Chained (now text) (now chain) × (b ≡ 0 → ⊥) × (near ≤ far) × (at + far < length (now text)) ⌝ }
-    ensures { λ r. ⌜ Ahead (now (text .entry)) near far a b at r ⌝ }
+) -> Part
+    requires { ⌜ Chained (now text) (now chain) × (b ≡ 0 → ⊥) × (near ≤ far) × (far ≤ from) × (from < length (now text)) ⌝ }
+    ensures { λ r. ⌜ Looked (now (text .entry)) near far a b from (r .at) (r .to) ⌝ }
 {
-    let first = at + near;
-    let second = at + far;
-    let to = part_end(second, text.len());
-    let n = measure::positions_before(&text[first..], &text[second..to], a, b);
-    if n < to - second {
-        return at + n;
-    }
-    chain::free_from(text, chain, to) - far
+    let second = chain::free_from(text, chain, from);
+    look(text, second, near, far, a, b)
 }
 
 // The first position of the text from `from` on with a so many words further on and b further still; else the end of those that have
@@ -75,11 +89,17 @@ fn next_pair(
     requires { ⌜ Chained (now text) (now chain) × (b ≡ 0 → ⊥) × (near ≤ far) × (from .0 + far < length (now text)) ⌝ }
     ensures { λ r. ⌜ First (SideBySide (now (text .entry)) near far a b) (from .0) (length (now (text .entry)) - far) (r .0) ⌝ }
 {
-    let mut at = from.0;
-    while at + far < text.len() && (text[at + near] != a) | (text[at + far] != b) {
-        at = pass_part(text, chain, at, near, far, a, b);
+    let at = from.0;
+    let first = at + near;
+    let second = at + far;
+    if (text[first] == a) & (text[second] == b) {
+        return from;
     }
-    TextAt(at)
+    let mut part = look(text, second, near, far, a, b);
+    while part.at + far == part.to && part.to < text.len() {
+        part = look_on(text, chain, part.to, near, far, a, b);
+    }
+    TextAt(part.at)
 }
 
 // Whether a word is not marked.

@@ -1,19 +1,19 @@
--- `plain::pass_part` meets its contract: the part has a position with both words, or all its positions are passed, and then the words after it that
--- are not free.
+-- `plain::look` meets its contract: the positions of the part that lack either word are passed.
 -- Assumes nothing.
-use Rattle.plain.proofs.Next.{part-found, part-lacks}
+use native.Mathlib.Omega.{arith}
+use Rattle.plain.proofs.Next.{passed-few, part-looked}
 use borrow.Author.Needs.{needs}
-use Rattle.plain.proofs.pass_part.Statement.{statement}
-use Rattle.plain.proofs.pass_part.Tie as tie
-
-add-first : tie.Need-add-first
-add-first c = search needs
-
-add-second : tie.Need-add-second
-add-second c = search needs
+use Rattle.plain.proofs.look.Statement.{statement}
+use Rattle.plain.proofs.look.Tie as tie
 
 part-end-requires : tie.Need-part-end-requires
 part-end-requires c κs = search needs
+
+sub-at : tie.Need-sub-at
+sub-at c = search needs
+
+add-first : tie.Need-add-first
+add-first c = search needs
 
 mul-positions-before : tie.Need-mul-positions-before
 mul-positions-before c = search needs
@@ -42,31 +42,22 @@ part-positions-before-end-2 c = search needs
 positions-before-requires : tie.Need-positions-before-requires
 positions-before-requires c κs = search needs
 
-sub-if1 : tie.Need-sub-if1
-sub-if1 c = search needs
-
-add-result : tie.Need-add-result
-add-result c = search needs
+add-t11 : tie.Need-add-t11
+add-t11 c =
+    let s = c .before .before .before .before .before in
+    let few = passed-few (s .args .text .now) _ _ (s .args .a) (s .args .b) _ (c .positions-before .ensures) in
+    record { fits = omega (arith, few) }
 
 returns : tie.Need-returns
-returns c = search part-found
+returns c = search part-looked
 
-free-from-requires : tie.Need-free-from-requires
-free-from-requires c κs = search needs
-
-sub-result : tie.Need-sub-result
-sub-result c = search needs
-
-returns-2 : tie.Need-returns-2
-returns-2 c = search part-lacks
-
-pub pass-part-spec : {M : Type 1} → statement M
-pass-part-spec =
+pub look-spec : {M : Type 1} → statement M
+look-spec =
     tie.close
     (tie.spec
-    add-first
-    add-second
     part-end-requires
+    sub-at
+    add-first
     mul-positions-before
     sub-positions-before
     part-positions-before-start
@@ -76,9 +67,5 @@ pass-part-spec =
     part-positions-before-start-2
     part-positions-before-end-2
     positions-before-requires
-    sub-if1
-    add-result
-    returns
-    free-from-requires
-    sub-result
-    returns-2)
+    add-t11
+    returns)
