@@ -66,9 +66,9 @@ module _ (xs es : List ℕ) (h : Chained xs es) where
   chain-back-less end before l e = omega arith
 
 -- ---- words that are 0
--- The first i of the last 32 words are all 0, or not.
+-- The first i of the last 16 words are all 0, or not.
 pub record Looked (ws : List ℕ) (from i : ℕ) (r : Bool) : Type 0 where
-  pub most : i ≤ 32
+  pub most : i ≤ 16
   pub all : r ≡ true → (k : ℕ) → k < i → getD ws (from + k) 0 ≡ 0
   pub only : ((k : ℕ) → k < i → getD ws (from + k) 0 ≡ 0) → r ≡ true
 
@@ -85,7 +85,7 @@ both false b e = (e, absurd (no e))
 of-both : (a b : Bool) → a ≡ true → b ≡ true → (a && b) ≡ true
 of-both a b e d = rw (e, d) refl
 
-pub looked-more : (ws : List ℕ) (from i : ℕ) (r : Bool) → Looked ws from i r → i < 32 → Looked ws from (i + 1) (r && eqb (getD ws (from + i) 0) 0)
+pub looked-more : (ws : List ℕ) (from i : ℕ) (r : Bool) → Looked ws from i r → i < 16 → Looked ws from (i + 1) (r && eqb (getD ws (from + i) 0) 0)
 looked-more ws from i r k h =
     record {
       most = omega arith;
@@ -97,7 +97,7 @@ looked-more ws from i r k h =
     all c l (yes e) t = rw e (eqb-true (getD ws (from + i) 0) 0 (both r (eqb (getD ws (from + i) 0) 0) t .1))
     all c l (no d) t = k .all (both r (eqb (getD ws (from + i) 0) 0) t .0) c (omega (arith, d))
 
-pub looked-all : (ws : List ℕ) (from i : ℕ) (r : Bool) → 32 ≤ length ws → from ≡ length ws - 32 → Looked ws from i r → 32 ≤ i → Zeros ws r
+pub looked-all : (ws : List ℕ) (from i : ℕ) (r : Bool) → 16 ≤ length ws → from ≡ length ws - 16 → Looked ws from i r → 16 ≤ i → Zeros ws r
 looked-all ws from i r w f k h =
     record {
       all = λ t c a b. let e : from + (c - from) ≡ c = omega arith in rw e at (k .all t (c - from) (omega arith));
@@ -108,16 +108,16 @@ pub tail-none : (ws : List ℕ) → ZeroTail ws (length ws)
 tail-none ws = record { within = omega arith; zero = λ i a b. absurd (omega arith) }
 
 -- One block more.
-pub block-part : (ws : List ℕ) (n : ℕ) → ZeroTail ws n → 32 ≤ n → 32 ≤ length (take (n - 0) ws)
+pub block-part : (ws : List ℕ) (n : ℕ) → ZeroTail ws n → 16 ≤ n → 16 ≤ length (take (n - 0) ws)
 block-part ws n t h = let e : n - 0 ≡ n = omega arith in rw (e, length-take) (omega (arith, t .within))
 
-pub tail-block : (ws : List ℕ) (n : ℕ) (r : Bool) → ZeroTail ws n → 32 ≤ n → Zeros (take (n - 0) ws) r → r ≡ true → ZeroTail ws (n - 32)
+pub tail-block : (ws : List ℕ) (n : ℕ) (r : Bool) → ZeroTail ws n → 16 ≤ n → Zeros (take (n - 0) ws) r → r ≡ true → ZeroTail ws (n - 16)
 tail-block ws n r t h y e = record { within = omega (arith, t .within); zero = λ i a b. zero i a b (decLt i n) }
   where
     z : Zeros (take n ws) r
     z = let k : n - 0 ≡ n = omega arith in rw k at y
 
-    zero : (i : ℕ) → n - 32 ≤ i → i < length ws → Dec (i < n) → getD ws i 0 ≡ 0
+    zero : (i : ℕ) → n - 16 ≤ i → i < length ws → Dec (i < n) → getD ws i 0 ≡ 0
     zero i a b (yes l) =
         let k : length (take n ws) ≡ n = simp length-take (omega (arith, t .within)) in
         sym (getD-take n ws i 0 l) ∙ z .all e i (omega arith) (omega arith)

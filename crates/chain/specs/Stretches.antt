@@ -6,10 +6,10 @@ use mathlib.Core.List.{List}
 use lib.ListN.{length, getD}
 use Rattle.chain.specs.Chain.{Free, beforeOf}
 
--- The last 32 words are all 0, or not.
+-- The last 16 words are all 0, or not.
 pub record Zeros (ws : List ℕ) (r : Bool) : Type 0 where
-  pub all : r ≡ true → (i : ℕ) → length ws ≤ i + 32 → i < length ws → getD ws i 0 ≡ 0
-  pub only : ((i : ℕ) → length ws ≤ i + 32 → i < length ws → getD ws i 0 ≡ 0) → r ≡ true
+  pub all : r ≡ true → (i : ℕ) → length ws ≤ i + 16 → i < length ws → getD ws i 0 ≡ 0
+  pub only : ((i : ℕ) → length ws ≤ i + 16 → i < length ws → getD ws i 0 ≡ 0) → r ≡ true
 
 -- All words from r on are 0.
 pub record ZeroTail (ws : List ℕ) (r : ℕ) : Type 0 where

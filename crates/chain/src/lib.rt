@@ -130,15 +130,15 @@ fn free_before(words: &[u32], chain: &[u32], to: usize) -> usize
     end
 }
 
-// Whether the last 32 words are all 0.
+// Whether the last 16 words are all 0.
 fn block_zero(words: &[u32]) -> bool
-    requires { ⌜ 32 ≤ length (now words) ⌝ }
+    requires { ⌜ 16 ≤ length (now words) ⌝ }
     ensures { λ r. ⌜ Zeros (now (words .entry)) r ⌝ }
 {
-    let from = words.len() - 32;
+    let from = words.len() - 16;
     let mut all = true;
     let mut i = 0;
-    while i < 32 {
+    while i < 16 {
         all = all & (words[from + i] == 0);
         i += 1;
     }
@@ -150,8 +150,8 @@ fn zero_blocks(words: &[u32]) -> usize
     ensures { λ r. ⌜ ZeroTail (now (words .entry)) r ⌝ }
 {
     let mut n = words.len();
-    while 32 <= n && block_zero(&words[0..n]) {
-        n -= 32;
+    while 16 <= n && block_zero(&words[0..n]) {
+        n -= 16;
     }
     n
 }

@@ -37,8 +37,8 @@ module _ (x : Pass) (heads ws b : List ℕ) (k : Totals) (fits : Fits (x .job) w
   pub pass-ready : Ready (x .job) ws₂ b k
   pass-ready = record { fits = unmoved-fits (x .job) ws ws₂ b k (filled .filled .same) (filled .filled .space) fits; upper = filled .filled .upper }
 
-  pub pass-over : (ws₃ b' : List ℕ) (k' : Totals) → Finished (x .job) (x .s) ws₂ b k ws₃ b' k' → Finished (x .job) (x .s) ws b k ws₃ b' k'
-  pass-over = unmoved-finished (x .job) ws ws₂ b k (filled .filled .same) (x .s)
+pub pass-over : (x : Pass) (heads ws ws₂ b : List ℕ) (k : Totals) → FilledRows x heads ws ws₂ → (ws₃ b' : List ℕ) (k' : Totals) → Finished (x .job) (x .s) ws₂ b k ws₃ b' k' → Finished (x .job) (x .s) ws b k ws₃ b' k'
+pass-over x heads ws ws₂ b k filled = unmoved-finished (x .job) ws ws₂ b k (filled .filled .same) (x .s)
 
 -- ---- the later passes
 pub record Resting (x : Pass) (ws₀ b₀ : List ℕ) (k₀ : Totals) (ws b : List ℕ) (k : Totals) (y : Pass) (stretch : ℕ) : Type 0 where

@@ -1,4 +1,4 @@
--- `chain::block_zero` meets its contract: at the head of each turn `all` says whether the first i of the last 32 words are 0.
+-- `chain::block_zero` meets its contract: at the head of each turn `all` says whether the first i of the last 16 words are 0.
 -- Assumes nothing.
 use Prim.Native.Nat.{_-_}
 use mathlib.Core.Path.{_≡_}
@@ -9,10 +9,10 @@ use Rattle.chain.proofs.block_zero.Statement.{statement}
 use Rattle.chain.proofs.block_zero.Tie as tie
 
 abbrev Inv-loop : tie.InvT-loop
-Inv-loop words from all₀ i₀ all i = Looked words from i all × (from ≡ length words - 32)
+Inv-loop words from all₀ i₀ all i = Looked words from i all × (from ≡ length words - 16)
 
 abbrev μ-loop : tie.MeasureT-loop
-μ-loop words from all₀ i₀ all i = 32 - i
+μ-loop words from all₀ i₀ all i = 16 - i
 
 sub-from : tie.Need-sub-from Inv-loop μ-loop
 sub-from c = search needs
