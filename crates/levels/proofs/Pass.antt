@@ -7,21 +7,18 @@ use native.Mathlib.Omega.{arith}
 use mathlib.Core.Path.{_≡_, refl, sym, _∙_, subst}
 use mathlib.Core.Bool.{Bool, true, false}
 use mathlib.Core.List.{List}
-use borrow.Author.Tests.{eqb-true}
-use lib.Dec.{eqb}
 use lib.ListN.{length, getD, set}
 use Rattle.tiling.specs.Tiling.{runAt}
 use Rattle.bounds.specs.Workspace.{state, boundsFrom, bound, laid}
 use Rattle.bounds.specs.Greatest.{Greatest}
 use Rattle.chain.specs.First.{First}
-use Rattle.bounds.specs.Blocks.{Covering}
-use Rattle.sweep.specs.Settled.{pick, settledWords}
+use Rattle.bounds.specs.Blocks.{Covering, Falling}
 use Rattle.sweep.specs.Goal.{atGoal}
 use Rattle.sweep.specs.Progress.{UpperFrom, Onward, Sweeping, Over, Searched, Ready, Finished}
 use Rattle.sweep.specs.declared.Found.{Found}
 use Rattle.bounds.specs.declared.Job.{Job}
 use Rattle.sweep.specs.declared.Totals.{Totals}
-use Rattle.sweep.proofs.Step.{in-pattern, in-text}
+use Rattle.sweep.proofs.Step.{lowered-sweep, lowered-lays, lowered-falls}
 use Rattle.sweep.proofs.Turn.{Swept, swept-none, swept-row, swept-long, swept-more, Level, level-none, level-sweep, level-more, level-less, level-done, level-goal}
 use Rattle.index.specs.Indexed.{Ranges, Indexed}
 use Rattle.index.specs.declared.Pass.{Pass}
@@ -68,16 +65,39 @@ module _ (x : Pass) (p : ℕ) (heads ws b : List ℕ) (k : Totals) (level : ℕ)
       found t (yes l) = r .most l t
       found t (no l) = omega (arith, most t, l)
 
-  settled : (c : Bool) → eqb (f .len) level ≡ c → Indexed x (pick c (laid j p (f .t .0) level ws) (set ws (boundsFrom j + p) (f .len))) heads
-  settled true e =
-      let h = eqb-true (f .len) level e in
-      let a = in-pattern j level p ws b k f row-sweeping inside (sym read) row-searched h in
-      let c = in-text j level p ws b k f row-sweeping inside (sym read) row-searched h in
-      indexed-kept x ws (laid j p (f .t .0) level ws) heads (kept-laid j ws p (f .t .0) level a c (row-sweeping .fits .space .roomy)) index
-  settled false e = indexed-kept x ws (set ws (boundsFrom j + p) (f .len)) heads (kept-set j ws p (f .len) inside) index
+  -- A shorter run is the row's new bound, and a run of the level's length is laid.
+  pub row-small : f .len ≤ 2048
+  row-small = r .small
 
-  pub row-settled : (ws' : List ℕ) → ws' ≡ settledWords j level p f ws → Indexed x ws' heads
-  row-settled ws' e = subst (λ y. Indexed x y heads) (sym e) (settled (eqb (f .len) level) refl)
+  module _ (short : f .len ≡ level → ⊥) (ws' : List ℕ) (made : ws' ≡ set ws (boundsFrom j + p) (f .len)) where
+    pub row-lowered : Sweeping j (bound j ws p) (p + 1) ws' b k
+    row-lowered = row-left j level (p + 1) p ws ws' b k read (lowered-sweep j level p ws b k f row-sweeping inside (sym read) row-searched short ws' made)
+
+    pub row-onward : Onward j ws b k ws' b k
+    row-onward = lowered-lays j level p ws b k f row-sweeping inside (sym read) row-searched short ws' made
+
+    pub row-falls : Falling j ws ws'
+    row-falls = lowered-falls j level p ws b k f row-sweeping inside (sym read) row-searched short ws' made
+
+    pub row-kept : Indexed x ws' heads
+    row-kept = subst (λ y. Indexed x y heads) (sym made) (indexed-kept x ws (set ws (boundsFrom j + p) (f .len)) heads (kept-set j ws p (f .len) inside) index)
+
+  module _ (same : f .len ≡ level) where
+    pub row-own : Sweeping j (f .len) p ws b k
+    row-own = rw same row-sweeping
+
+    pub row-level : bound j ws p ≡ f .len
+    row-level = sym read ∙ sym same
+
+    pub row-found : Searched j ws (f .len) p f
+    row-found = subst (λ n. Searched j ws n p f) (sym same) row-searched
+
+pub row-after : (j : Job) (level len from p : ℕ) (ws ws' b' : List ℕ) (k' : Totals) → level ≡ bound j ws p → len ≡ level → Sweeping j len from ws' b' k' → Sweeping j (bound j ws p) from ws' b' k'
+row-after j level len from p ws ws' b' k' read same s = subst (λ n. Sweeping j n from ws' b' k') (same ∙ read) s
+
+pub row-laid : (x : Pass) (level p q t : ℕ) (heads ws b : List ℕ) (k : Totals) → Sweeping (x .job) level p ws b k → Indexed x ws heads → (n : ℕ) → q + n ≤ x .job .n → t + n ≤ x .job .m → (ws' : List ℕ) → ws' ≡ laid (x .job) q t n ws → Indexed x ws' heads
+row-laid x level p q t heads ws b k w index n h l ws' made =
+    subst (λ y. Indexed x y heads) (sym made) (indexed-kept x ws (laid (x .job) q t n ws) heads (kept-laid (x .job) ws q t n h l (w .fits .space .roomy)) index)
 
 -- ---- a sweep
 pub record Turning (x : Pass) (heads : List ℕ) (level : ℕ) (ws₀ b₀ : List ℕ) (k₀ : Totals) (ws b : List ℕ) (k : Totals) (bs : List ℕ) (p : ℕ) : Type 0 where

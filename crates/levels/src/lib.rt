@@ -1,5 +1,6 @@
 // The tiles of one pass: rows are searched by the index, level by level, and their tiles are laid.
 use index::Pass;
+use sweep::Found;
 use sweep::Round;
 use sweep::Totals;
 use tile::PatternAt;
@@ -9,7 +10,7 @@ ghost use Prim.Native.Nat.{_+_, _≤_, _<_};
 ghost use Rattle.bounds.specs.Workspace.{bound};
 ghost use Rattle.bounds.specs.Blocks.{Covering, Falling};
 ghost use Rattle.sweep.specs.Goal.{atGoal};
-ghost use Rattle.sweep.specs.Progress.{Ready, Sweeping, Over, Onward, Finished};
+ghost use Rattle.sweep.specs.Progress.{Ready, Searched, Sweeping, Over, Onward, Finished};
 ghost use Rattle.index.specs.Indexed.{Ranges, Indexed};
 
 // A turn of a sweep: the row that is visited, and what is laid before it.
@@ -18,7 +19,26 @@ struct Turn {
     totals: Totals,
 }
 
-// A row whose bound is the level is searched again and settled.
+// A run of the level's length was found in the row that is visited: it is the next tile.
+fn lay_row(
+    ws: &mut [u32],
+    pass: Pass,
+    heads: &[u32; 1024],
+    found: Found,
+    tiles: &mut [u32],
+    turn: Turn,
+) -> Totals
+    requires { ⌜ Sweeping (pass .job) (found .len) (turn .p .0) (now ws) (now tiles) (turn .totals) × (atGoal (turn .totals) ≡ false) × Indexed pass (now ws) (now heads) × (turn .p .0 < pass .job .n) × (bound (pass .job) (now ws) (turn .p .0) ≡ found .len) × Searched (pass .job) (now ws) (found .len) (turn .p .0) found ⌝ }
+    ensures { λ r. ⌜ Indexed pass (now (ws .exit)) (now (heads .entry)) ⌝ }
+    ensures { λ r. ⌜ Sweeping (pass .job) (found .len) (turn .p .0 + 1) (now (ws .exit)) (now (tiles .exit)) r ⌝ }
+    ensures { λ r. ⌜ Onward (pass .job) (now (ws .entry)) (now (tiles .entry)) (turn .totals) (now (ws .exit)) (now (tiles .exit)) r ⌝ }
+    ensures { λ r. ⌜ Falling (pass .job) (now (ws .entry)) (now (ws .exit)) ⌝ }
+{
+    let level = found.len;
+    sweep::settle(ws, pass.job, level, turn.p, found, tiles, turn.totals)
+}
+
+// A row whose bound is the level is searched again: a run of that length is the next tile, and a shorter one is the row's new bound.
 fn visit(
     ws: &mut [u32],
     pass: Pass,
@@ -36,7 +56,12 @@ fn visit(
 {
     let level = bounds::bound_of(ws, pass.job, p);
     let found = rows::find(ws, pass, heads, last, p, level);
-    sweep::settle(ws, pass.job, level, p, found, tiles, totals)
+    if found.len != level {
+        bounds::set_bound(ws, pass.job, p, found.len);
+        return totals;
+    }
+    let turn = Turn { p, totals };
+    lay_row(ws, pass, heads, found, tiles, turn)
 }
 
 // The same, and the blocks are set anew whose bounds have fallen.

@@ -9,18 +9,20 @@ use mathlib.Core.Bool.{Bool, true, false}
 use mathlib.Core.List.{List}
 use borrow.Author.Tests.{ltb-true, lt-ltb, le-ltb}
 use lib.Dec.{ltb}
-use lib.ListN.{drop, getD, length-drop}
+use lib.ListN.{drop, getD, set, length-drop}
 use Rattle.symbol.specs.Word.{equalCalls}
 use Rattle.symbol.proofs.Word.{and-left}
 use Rattle.tile.specs.declared.TextAt.{TextAt}
-use Rattle.bounds.specs.Workspace.{Space, state, bound}
+use Rattle.bounds.specs.Workspace.{Space, state, boundsFrom, bound}
+use Rattle.bounds.specs.Blocks.{Falling}
 use Rattle.sweep.specs.Row.{Row, boundBy, freeWords, before}
-use Rattle.sweep.specs.Progress.{Fits, Searched, UpperFrom, RowBound, Filled, Ready, Finished, Sweeping}
+use Rattle.sweep.specs.Progress.{Fits, Searched, UpperFrom, RowBound, Filled, Ready, Onward, Finished, Sweeping}
 use Rattle.bounds.specs.declared.Job.{Job}
 use Rattle.sweep.specs.declared.Found.{Found}
 use Rattle.sweep.specs.declared.Totals.{Totals}
 use Rattle.sweep.proofs.Told.{bound-tells, bound-told, free-tells, telling-both, before-some}
 use Rattle.sweep.proofs.Row.{row-small}
+use Rattle.sweep.proofs.Step.{lowered-sweep, lowered-lays, lowered-falls}
 use Rattle.sweep.proofs.Turn.{unmoved-fits, unmoved-finished}
 use Rattle.bounds.proofs.Workspace.{pattern-length}
 use Rattle.plain.specs.Bounds.{Capped, goesOn}
@@ -103,6 +105,21 @@ sweeping-entered j level p ws b k e w = rw e w
 
 pub sweeping-left : (j : Job) (level from p : ℕ) (ws ws' b' : List ℕ) (k' : Totals) → level ≡ bound j ws p → Sweeping j level from ws' b' k' → Sweeping j (bound j ws p) from ws' b' k'
 sweeping-left j level from p ws ws' b' k' e w = rw e at w
+
+-- A shorter run is the row's new bound.
+module _ (j : Job) (level p : ℕ) (ws b : List ℕ) (k : Totals) (f : Found) (read : level ≡ bound j ws p) (w : Sweeping j (bound j ws p) p ws b k) (inside : p < j .n) (r : Searched j ws level p f) where
+  pub sweeping-small : f .len ≤ 2048
+  sweeping-small = r .small
+
+  module _ (short : f .len ≡ level → ⊥) (ws' : List ℕ) (made : ws' ≡ set ws (boundsFrom j + p) (f .len)) where
+    pub sweeping-lowered : Sweeping j (bound j ws p) (p + 1) ws' b k
+    sweeping-lowered = sweeping-left j level (p + 1) p ws ws' b k read (lowered-sweep j level p ws b k f (sweeping-entered j level p ws b k read w) inside (sym read) r short ws' made)
+
+    pub sweeping-onward : Onward j ws b k ws' b k
+    sweeping-onward = lowered-lays j level p ws b k f (sweeping-entered j level p ws b k read w) inside (sym read) r short ws' made
+
+    pub sweeping-falls : Falling j ws ws'
+    sweeping-falls = lowered-falls j level p ws b k f (sweeping-entered j level p ws b k read w) inside (sym read) r short ws' made
 
 -- ---- all of them
 module _ (j : Job) (ws ws' b : List ℕ) (k : Totals) (r : Filled j ws ws') where

@@ -307,7 +307,7 @@ fn find(ws: &[u32], job: Job, last: &mut usize, p: PatternAt, cap: usize) -> Fou
     search_kept(ws, job, last, p, job.minimum - 1, cap)
 }
 
-// A row whose bound is the level is searched again and settled.
+// A row whose bound is the level is searched again: a run of that length is the next tile, and a shorter one is the row's new bound.
 fn visit(
     ws: &mut [u32],
     job: Job,
@@ -323,6 +323,10 @@ fn visit(
 {
     let level = bounds::bound_of(ws, job, p);
     let found = find(ws, job, last, p, level);
+    if found.len != level {
+        bounds::set_bound(ws, job, p, found.len);
+        return totals;
+    }
     sweep::settle(ws, job, level, p, found, tiles, totals)
 }
 

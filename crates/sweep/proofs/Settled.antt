@@ -1,18 +1,10 @@
--- The two ways in which a row is settled, as the code tests them.
+-- How many rows have a new bound after one was searched, as the code tests it.
 -- Assumes nothing.
 use Prim.Native.Nat.{ℕ}
 use mathlib.Core.Path.{_≡_, refl}
 use borrow.Author.Tests.{eq-eqb, ne-eqb}
-use lib.Dec.{eqb}
-use Rattle.sweep.specs.Settled.{pick, settledRows}
+use Rattle.sweep.specs.Settled.{settledRows}
 use Rattle.sweep.specs.declared.Totals.{Totals}
-
-module _ {A : Type 0} (n level : ℕ) where
-  pub settle-laid : (x laid lowered : A) → n ≡ level → x ≡ laid → x ≡ pick (eqb n level) laid lowered
-  settle-laid x laid lowered e k = rw (eq-eqb n level e) k
-
-  pub settle-lowered : (x laid lowered : A) → (n ≡ level → ⊥) → x ≡ lowered → x ≡ pick (eqb n level) laid lowered
-  settle-lowered x laid lowered d k = rw (ne-eqb n level d) k
 
 pub settled-row : (before after : Totals) (level : ℕ) → before .count ≡ after .count → 1 ≡ settledRows before after level
 unfolding settledRows

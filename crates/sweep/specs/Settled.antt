@@ -1,18 +1,16 @@
--- What is left after a row was searched whose bound was the level: a run of the level's length is laid as a tile and listed, and a shorter
--- one is the row's new bound.
+-- What is left after a tile was laid and listed. No reader of the engines' contracts needs these.
 use Prim.Native.Nat.{ℕ, _+_, _*_}
 use mathlib.Core.Bool.{Bool, true, false}
 use mathlib.Core.List.{List, [], _∷_, _++_}
 use lib.Dec.{eqb}
-use lib.ListN.{take, drop, set}
+use lib.ListN.{take, drop}
 use Rattle.buffer.specs.Buffer.{onto}
 use Rattle.tiling.specs.Run.{mark}
 use Rattle.tiling.specs.Tiling.{Tile}
 use Rattle.tiling.specs.Listing.{tileWords}
 use Rattle.tiling.specs.Stretch.{fillable}
 use Rattle.tile.specs.Listed.{listed}
-use Rattle.bounds.specs.Workspace.{state, boundsFrom, laid}
-use Rattle.sweep.specs.declared.Found.{Found}
+use Rattle.bounds.specs.Workspace.{state}
 use Rattle.bounds.specs.declared.Job.{Job}
 use Rattle.sweep.specs.declared.Totals.{Totals}
 
@@ -30,16 +28,6 @@ oneMore j k next b =
 abbrev pub laidTotals : Job → ℕ → ℕ → List ℕ → Totals → Totals
 laidTotals j p len ws k =
     record { count = k .count + 1; covered = k .covered + len; fillable = fillable (j .minimum) (mark p len (state j ws .pattern)); goal = k .goal }
-
--- The workspace, the tile buffer and the totals.
-abbrev pub settledWords : Job → ℕ → ℕ → Found → List ℕ → List ℕ
-settledWords j level p f ws = pick (eqb (f .len) level) (laid j p (f .t .0) level ws) (set ws (boundsFrom j + p) (f .len))
-
-abbrev pub settledTiles : Job → ℕ → ℕ → Found → Totals → List ℕ → List ℕ
-settledTiles j level p f k b = pick (eqb (f .len) level) (oneMore j k (record { p = p; t = f .t .0; len = level }) b) b
-
-abbrev pub settledTotals : Job → ℕ → ℕ → Found → List ℕ → Totals → Totals
-settledTotals j level p f ws k = pick (eqb (f .len) level) (laidTotals j p level ws k) k
 
 -- How many rows from that one on have a new bound.
 unfoldable pub settledRows : Totals → Totals → ℕ → ℕ

@@ -14,7 +14,7 @@ ghost use Rattle.bounds.specs.Workspace.{Space, state, bound, laid};
 ghost use Rattle.bounds.specs.Blocks.{Falling};
 ghost use Rattle.sweep.specs.Row.{better, alikeBound, boundBy, freeWords, passedOver, before, takenOver};
 ghost use Rattle.sweep.specs.Goal.{atGoal};
-ghost use Rattle.sweep.specs.Settled.{oneMore, laidTotals, settledWords, settledTiles, settledTotals, settledRows};
+ghost use Rattle.sweep.specs.Settled.{oneMore, laidTotals, settledRows};
 ghost use Rattle.sweep.specs.Progress.{Searched, Sweeping, Onward};
 
 // The longest run of a row and the first position on the text that has it.
@@ -225,8 +225,8 @@ fn list(tiles: &mut [u32], job: Job, totals: Totals, p: PatternAt, t: TextAt, le
     }
 }
 
-// After the row at p was searched, where its bound is the level: a run of that length is the next tile, since no run is
-// longer and no row before has one as long. A shorter one is the row's new bound.
+// After the row at p was searched, where its bound is the level, and so long a run was found: it is the next tile, since no run is longer and no
+// row before has one as long. (A shorter one is the row's new bound, which is all that there is to do then.)
 pub fn settle(
     ws: &mut [u32],
     job: Job,
@@ -236,18 +236,15 @@ pub fn settle(
     tiles: &mut [u32],
     totals: Totals,
 ) -> Totals
-    requires { ⌜ Sweeping job level (p .0) (now ws) (now tiles) totals × (atGoal totals ≡ false) × (p .0 < job .n) × (bound job (now ws) (p .0) ≡ level) × Searched job (now ws) level (p .0) found ⌝ }
-    ensures { λ r. ⌜ r ≡ settledTotals job level (p .0) found (now (ws .entry)) totals ⌝ }
-    ensures { λ r. ⌜ now (ws .exit) ≡ settledWords job level (p .0) found (now (ws .entry)) ⌝ }
-    ensures { λ r. ⌜ now (tiles .exit) ≡ settledTiles job level (p .0) found totals (now (tiles .entry)) ⌝ }
+    requires { ⌜ Sweeping job level (p .0) (now ws) (now tiles) totals × (atGoal totals ≡ false) × (p .0 < job .n) × (bound job (now ws) (p .0) ≡ level) × Searched job (now ws) level (p .0) found × (found .len ≡ level) ⌝ }
+    ensures { λ r. ⌜ (p .0 + level ≤ job .n) × (found .t .0 + level ≤ job .m) ⌝ }
+    ensures { λ r. ⌜ r ≡ laidTotals job (p .0) level (now (ws .entry)) totals ⌝ }
+    ensures { λ r. ⌜ now (ws .exit) ≡ laid job (p .0) (found .t .0) level (now (ws .entry)) ⌝ }
+    ensures { λ r. ⌜ now (tiles .exit) ≡ oneMore job totals (record { p = p .0; t = found .t .0; len = level }) (now (tiles .entry)) ⌝ }
     ensures { λ r. ⌜ Sweeping job level (p .0 + 1) (now (ws .exit)) (now (tiles .exit)) r ⌝ }
     ensures { λ r. ⌜ Onward job (now (ws .entry)) (now (tiles .entry)) totals (now (ws .exit)) (now (tiles .exit)) r ⌝ }
     ensures { λ r. ⌜ Falling job (now (ws .entry)) (now (ws .exit)) ⌝ }
 {
-    if found.len != level {
-        bounds::set_bound(ws, job, p, found.len);
-        return totals;
-    }
     list(tiles, job, totals, p, found.t, level);
     lay_next(ws, job, p, found.t, level, totals)
 }
