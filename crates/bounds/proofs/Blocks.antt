@@ -5,17 +5,21 @@ use Prim.Native.Nat.{ℕ, _+_, _-_, _*_, _/_, _≤_, _<_, min, max}
 use native.Mathlib.Decide.{decLt, ℕ-discrete}
 use native.Mathlib.Omega.{arith}
 use mathlib.Core.Path.{_≡_, refl, sym, _∙_, ap}
+use mathlib.Core.Bool.{Bool, true, false}
 use mathlib.Core.List.{List}
-use lib.ListN.{length, getD, set}
+use borrow.Author.Tests.{lt-ltb, le-ltb, eq-eqb, ne-eqb}
+use lib.Dec.{eqb}
+use lib.ListN.{length, take, drop, getD, set}
 use lib.Seq.{getD-set-other, getD-take}
 use Rattle.chain.specs.First.{First, Passing}
 use Rattle.chain.specs.Chain.{Free, nextOf}
-use Rattle.chain.proofs.First.{passing-to}
+use Rattle.chain.proofs.First.{passing-none, passing-to, passing-one}
 use Rattle.chain.proofs.Links.{next-above}
 use Rattle.bounds.specs.Workspace.{Space, state, bound, patternChain}
 use Rattle.bounds.specs.Greatest.{Greatest}
-use Rattle.bounds.specs.Blocks.{Tops, BlockSet, Refreshed, Covering, Falling}
+use Rattle.bounds.specs.Blocks.{blockCount, Tops, BlockSet, Refreshed, inLevel, Renewed, Covering, Falling}
 use Rattle.bounds.specs.declared.Job.{Job}
+use Rattle.bounds.proofs.Most.{greatest-same, greatest-part}
 use Rattle.bounds.proofs.Workspace.{pattern-length}
 
 -- ---- setting blocks anew
@@ -72,6 +76,28 @@ module _ (j : Job) (ws : List ℕ) (from to b : ℕ) (bs₀ bs : List ℕ) (i : 
 pub refreshed-rows : (j : Job) (ws : List ℕ) (p rows least : ℕ) (bs bs' : List ℕ) → least ≡ min rows (j .n - p) → Refreshed j ws (p / 32) ((p + least + 31) / 32) bs bs' → Refreshed j ws (p / 32) ((p + min rows (j .n - p) + 31) / 32) bs bs'
 refreshed-rows j ws p rows least bs bs' e r = rw (← e) r
 
+-- ---- unless the row after them is in the level
+module _ (j : Job) (ws : List ℕ) (level p q : ℕ) where
+  pub in-level-past : j .n ≤ q → false ≡ inLevel j ws level p q
+  in-level-past h = rw (le-ltb q (j .n) h) refl
+
+  module _ (inside : q < j .n) where
+    pub in-level-far : (q / 32 ≡ p / 32 → ⊥) → false ≡ inLevel j ws level p q
+    in-level-far d = rw (lt-ltb q (j .n) inside, ne-eqb (q / 32) (p / 32) d) refl
+
+    pub in-level-by : q / 32 ≡ p / 32 → (w : ℕ) → w ≡ bound j ws q → eqb w level ≡ inLevel j ws level p q
+    in-level-by e w k = rw (lt-ltb q (j .n) inside, eq-eqb (q / 32) (p / 32) e, k) refl
+
+not-both : true ≡ false → ⊥
+not-both e = let z : _≡_ {A = ℕ} 0 1 = cc in omega arith
+
+module _ (j : Job) (ws : List ℕ) (level p rows : ℕ) (bs : List ℕ) (b : Bool) (e : b ≡ inLevel j ws level p (p + rows)) where
+  pub renewed-kept : b ≡ true → Renewed j ws level p rows bs bs
+  renewed-kept t = record { kept = λ k. refl; anew = λ k. absurd (not-both (sym t ∙ (e ∙ k))) }
+
+  pub renewed-anew : b ≡ false → (bs' : List ℕ) → Refreshed j ws (p / 32) ((p + min rows (j .n - p) + 31) / 32) bs bs' → Renewed j ws level p rows bs bs'
+  renewed-anew f bs' r = record { kept = λ k. absurd (not-both (sym k ∙ (sym e ∙ f))); anew = λ k. r }
+
 -- ---- bounds of bounds
 -- A row's bound is one of its block's.
 tops-row : (j : Job) (ws : List ℕ) (q top : ℕ) → q < j .n → Tops j ws (q / 32) top → bound j ws q ≤ top
@@ -87,9 +113,16 @@ covering-refreshed j ws from to bs bs' c r = record { most = λ q h. most q h (d
     most q h (no l) (yes m) = tops-row j ws q (getD bs' (q / 32) 0) h (r .anew (q / 32) (omega (arith, l)) m)
     most q h (no l) (no m) = rw (r .after (q / 32) (omega (arith, m))) (c .most q h)
 
--- After bounds fell, and some blocks were set anew.
-pub covering-after : (j : Job) (ws ws' : List ℕ) (from to : ℕ) (bs bs' : List ℕ) → Covering j ws bs → Falling j ws ws' → Refreshed j ws' from to bs bs' → Covering j ws' bs'
-covering-after j ws ws' from to bs bs' c f = covering-refreshed j ws' from to bs bs' (record { most = λ q h. omega (arith, c .most q h, f .falls q h) })
+-- After bounds fell, and some blocks were set anew, or none was.
+pub covering-after : (j : Job) (ws ws' : List ℕ) (level p rows : ℕ) (bs bs' : List ℕ) → Covering j ws bs → Falling j ws ws' → Renewed j ws' level p rows bs bs' → Covering j ws' bs'
+covering-after j ws ws' level p rows bs bs' c f r = go (inLevel j ws' level p (p + rows)) refl
+  where
+    fallen : Covering j ws' bs
+    fallen = record { most = λ q h. omega (arith, c .most q h, f .falls q h) }
+
+    go : (b : Bool) → inLevel j ws' level p (p + rows) ≡ b → Covering j ws' bs'
+    go true e = rw (r .kept e) fallen
+    go false e = covering-refreshed j ws' (p / 32) ((p + min rows (j .n - p) + 31) / 32) bs bs' fallen (r .anew e)
 
 -- All blocks set anew.
 pub covering-all : (j : Job) (ws : List ℕ) (p : ℕ) (bs bs' : List ℕ) → p ≡ 0 → Refreshed j ws (p / 32) ((p + min (j .n) (j .n - p) + 31) / 32) bs bs' → Covering j ws bs'
@@ -97,11 +130,14 @@ covering-all j ws p bs bs' z r =
     record { most = λ q h. tops-row j ws q (getD bs' (q / 32) 0) h (r .anew (q / 32) (omega (arith, z)) (omega (arith, z))) }
 
 -- No bound exceeds the greatest of the blocks.
-pub covering-top : (j : Job) (ws bs : List ℕ) (top : ℕ) → Space j ws → Covering j ws bs → Greatest (λ b. getD bs b 0) 64 top → (q : ℕ) → q < j .n → bound j ws q ≤ top
-covering-top j ws bs top s c g q h = omega (arith, c .most q h, g .most (q / 32) (omega (arith, s .short-pattern)))
+pub covering-top : (j : Job) (ws bs : List ℕ) (top : ℕ) → Covering j ws bs → Greatest (λ b. getD bs b 0) (blockCount j) top → (q : ℕ) → q < j .n → bound j ws q ≤ top
+covering-top j ws bs top c g q h = omega (arith, c .most q h, g .most (q / 32) (omega arith))
 
-pub top-all : (bs : List ℕ) (w r : ℕ) → Greatest (λ b. getD bs b 0) (length bs) w → length bs ≡ 64 → r ≡ w → Greatest (λ b. getD bs b 0) 64 r
-top-all bs w r g n e = rw (← n, e) g
+pub top-part : (j : Job) (bs : List ℕ) (count w r : ℕ) → length bs ≡ 64 → j .n ≤ 2048 → count ≡ blockCount j → Greatest (λ k. getD (take (count - 0) (drop 0 bs)) k 0) (length (take (count - 0) (drop 0 bs))) w → r ≡ w → Greatest (λ b. getD bs b 0) (blockCount j) r
+top-part j bs count w r n h e g k =
+    let part = greatest-part bs 0 (count - 0) w (omega arith) g in
+    let same : count - 0 ≡ blockCount j = omega arith in
+    rw k (greatest-same (λ i. getD bs (0 + i) 0) (λ b. getD bs b 0) (blockCount j) w (λ i l. let z : 0 + i ≡ i = omega arith in ap (λ y. getD bs y 0) z) (rw same at part))
 
 -- ---- the next row of a level
 -- A bound that was read.
@@ -146,6 +182,21 @@ module _ (Q : ℕ → Type 0) (j : Job) (ws : List ℕ) (level p : ℕ) (inside 
       free : (k : ℕ) → k < r → (Free (state j ws .pattern) k → ⊥) → bound j ws k ≡ level → Dec (getD ws k 0 ≡ 0) → ⊥
       free k l not z (yes a) = omega (arith, s .covered k (omega (arith, small)) a)
       free k l not z (no a) = not (λ y. a (sym (getD-take (j .n) ws k 0 (omega (arith, small))) ∙ y))
+
+-- Rows along the chain: no row after p up to q has the level for its bound.
+pub record Along (Q : ℕ → Type 0) (n p q : ℕ) : Type 0 where
+  pub inside : q < n
+  pub passing : Passing Q (p + 1) n (q + 1)
+
+pub along-none : (Q : ℕ → Type 0) (n p : ℕ) → p < n → Along Q n p p
+along-none Q n p h = record { inside = h; passing = passing-none Q (p + 1) n (omega arith) }
+
+module _ (Q : ℕ → Type 0) (n p q : ℕ) (a : Along Q n p q) where
+  pub along-more : (cap end : ℕ) → end ≡ min cap n → q + 1 < end → (Q (q + 1) → ⊥) → Along Q n p (q + 1)
+  along-more cap end e l d = record { inside = omega arith; passing = passing-one Q (p + 1) n (q + 1) (a .passing) (omega arith) d }
+
+  pub along-all : (r : ℕ) → Passing Q (q + 1) n r → Passing Q (p + 1) n r
+  along-all r s = passing-to Q (p + 1) n (q + 1) (a .passing) r (s .least) (s .within) (s .none)
 
 module _ (Q : ℕ → Type 0) (from n p next : ℕ) (i : Passing Q from n p) (inside : p < n) (r : Passing Q (p + 1) n next) where
   pub past-row : (Q p → ⊥) → Passing Q from n next

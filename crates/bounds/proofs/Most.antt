@@ -4,9 +4,10 @@ use Prim.Native.Nat.{ℕ, _+_, _≤_, _<_, max}
 use native.Mathlib.Nat.{not-suc-le-zero}
 use native.Mathlib.Decide.{decLt}
 use native.Mathlib.Omega.{arith}
-use mathlib.Core.Path.{_≡_}
+use mathlib.Core.Path.{_≡_, _∙_}
 use mathlib.Core.List.{List}
-use lib.ListN.{length, getD}
+use lib.ListN.{length, take, drop, getD, length-drop}
+use lib.Seq.{length-take-le, getD-take, getD-drop}
 use Rattle.bounds.specs.Greatest.{Among, Greatest}
 
 pub record Seen (words : List ℕ) (i r : ℕ) : Type 0 where
@@ -37,3 +38,17 @@ seen-more words i r s g h e =
 
 pub seen-all : (words : List ℕ) (i r : ℕ) → Seen words i r → length words ≤ i → Greatest (λ k. getD words k 0) (length words) r
 seen-all words i r g h = let e : i ≡ length words = omega (arith, g .within) in rw e at (g .greatest)
+
+-- The greatest of the same numbers, and of the words of a part.
+pub greatest-same : (f g : ℕ → ℕ) (n r : ℕ) → ((i : ℕ) → i < n → f i ≡ g i) → Greatest f n r → Greatest g n r
+greatest-same f g n r same d =
+    record {
+      most = λ i h. omega (arith, same i h, d .most i h);
+      one = λ z. let a = d .one z in record { at = a .at; below = a .below; here = omega (arith, same (a .at) (a .below), a .here) };
+    }
+
+pub greatest-part : (xs : List ℕ) (from count r : ℕ) → from + count ≤ length xs → Greatest (λ k. getD (take count (drop from xs)) k 0) (length (take count (drop from xs))) r → Greatest (λ i. getD xs (from + i) 0) count r
+greatest-part xs from count r h g =
+    let n : length (take count (drop from xs)) ≡ count = length-take-le count (drop from xs) (omega (arith, length-drop from xs)) in
+    let whole : Greatest (λ k. getD (take count (drop from xs)) k 0) count r = rw n at g in
+    greatest-same (λ k. getD (take count (drop from xs)) k 0) (λ i. getD xs (from + i) 0) count r (λ i k. getD-take count (drop from xs) i 0 k ∙ getD-drop from xs i 0) whole

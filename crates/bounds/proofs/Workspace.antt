@@ -20,6 +20,7 @@ use Rattle.chain.specs.Unlinked.{unlinked}
 use Rattle.chain.proofs.Links.{chained-unlinked, length-unlinked}
 use Rattle.bounds.specs.Greatest.{Greatest}
 use Rattle.bounds.specs.declared.Job.{Job}
+use Rattle.bounds.proofs.Most.{greatest-same, greatest-part}
 use Rattle.bounds.proofs.Part.{put-length, put-front, put-part, put-back, put-before, put-after}
 
 -- ---- the sequences in the workspace
@@ -337,16 +338,5 @@ pub greatest-rows : (j : Job) (ws : List ℕ) (from to r : ℕ) → Space j ws �
 greatest-rows j ws from to r s h l g =
     let begin = 2 * (j .n + j .m) + from in
     let count : 2 * (j .n + j .m) + to - begin ≡ to - from = omega arith in
-    let part = take (2 * (j .n + j .m) + to - begin) (drop begin ws) in
-    let n : length part ≡ to - from = length-take-le (2 * (j .n + j .m) + to - begin) (drop begin ws) (omega (arith, length-drop begin ws, s .roomy)) ∙ count in
-    let at : (i : ℕ) → i < to - from → getD part i 0 ≡ bound j ws (from + i) =
-    (λ i k.
-    let e : begin + i ≡ 2 * (j .n + j .m) + (from + i) = omega arith in
-    getD-take (2 * (j .n + j .m) + to - begin) (drop begin ws) i 0 (omega arith) ∙ (getD-drop begin ws i 0 ∙ ap (λ k. getD ws k 0) e)) in
-    record {
-      most = λ i k. omega (arith, at i k, g .most i (omega (arith, n)));
-      one = λ z.
-          let a = g .one z in
-          let u : a .at < to - from = omega (arith, n, a .below) in
-          record { at = a .at; below = u; here = omega (arith, at (a .at) u, a .here) };
-    }
+    let part : Greatest (λ i. getD ws (begin + i) 0) (to - from) r = rw count at (greatest-part ws begin (2 * (j .n + j .m) + to - begin) r (omega (arith, s .roomy)) g) in
+    greatest-same (λ i. getD ws (begin + i) 0) (λ i. bound j ws (from + i)) (to - from) r (λ i k. let e : begin + i ≡ 2 * (j .n + j .m) + (from + i) = omega arith in ap (λ k. getD ws k 0) e) part

@@ -1,11 +1,17 @@
 -- Blocks of 32 rows and the greatest bound of each. No reader of the engines' contracts needs these.
 use Prim.Native.Nat.{ℕ, _+_, _-_, _*_, _/_, _≤_, _<_, min}
 use mathlib.Core.Path.{_≡_}
+use mathlib.Core.Bool.{Bool, true, false, _&&_}
 use mathlib.Core.List.{List}
+use lib.Dec.{eqb, ltb}
 use lib.ListN.{getD, set}
 use Rattle.bounds.specs.Workspace.{bound}
 use Rattle.bounds.specs.Greatest.{Greatest}
 use Rattle.bounds.specs.declared.Job.{Job}
+
+-- How many blocks there are.
+abbrev pub blockCount : Job → ℕ
+blockCount j = (j .n + 31) / 32
 
 -- The number is the greatest bound of block b. The last block may have fewer rows than the others.
 abbrev pub Tops : Job → List ℕ → ℕ → ℕ → Type 0
@@ -23,6 +29,15 @@ pub record Refreshed (j : Job) (ws : List ℕ) (from to : ℕ) (bs bs' : List �
   pub anew : (b : ℕ) → from ≤ b → b < to → Tops j ws b (getD bs' b 0)
   pub before : (b : ℕ) → b < from → getD bs' b 0 ≡ getD bs b 0
   pub after : (b : ℕ) → to ≤ b → getD bs' b 0 ≡ getD bs b 0
+
+-- Row q stands in the block of row p and has the level for its bound.
+abbrev pub inLevel : Job → List ℕ → ℕ → ℕ → ℕ → Bool
+inLevel j ws level p q = ltb q (j .n) && (eqb (q / 32) (p / 32) && eqb (bound j ws q) level)
+
+-- The blocks of some rows from p on were set anew, unless the row after them is in the level.
+pub record Renewed (j : Job) (ws : List ℕ) (level p rows : ℕ) (bs bs' : List ℕ) : Type 0 where
+  pub kept : inLevel j ws level p (p + rows) ≡ true → bs' ≡ bs
+  pub anew : inLevel j ws level p (p + rows) ≡ false → Refreshed j ws (p / 32) ((p + min rows (j .n - p) + 31) / 32) bs bs'
 
 -- No bound of a row exceeds what stands for its block. It may be less: bounds fall before their blocks are set anew.
 pub record Covering (j : Job) (ws bs : List ℕ) : Type 0 where

@@ -10,7 +10,7 @@ ghost use Rattle.chain.specs.Chain.{nextOf, Ranged};
 ghost use Rattle.chain.specs.Stretches.{StretchBefore};
 ghost use Rattle.bounds.specs.Workspace.{Space, state, boundsFrom, bound, patternChain, marked, unlinkedIn, laid};
 ghost use Rattle.bounds.specs.Greatest.{Greatest};
-ghost use Rattle.bounds.specs.Blocks.{BlockSet, Refreshed, Covering};
+ghost use Rattle.bounds.specs.Blocks.{blockCount, BlockSet, Refreshed, inLevel, Renewed, Covering};
 
 // What a comparison works on: the lengths of pattern and text, the minimum, and whether the first sequence is the pattern.
 pub struct Job {
@@ -87,6 +87,14 @@ pub fn store(words: &mut [u32], at: usize, value: u32)
     words[at] = value;
 }
 
+// How many blocks of 32 rows there are.
+fn block_count(job: Job) -> usize
+    requires { ⌜ job .n ≤ 2048 ⌝ }
+    ensures { λ r. ⌜ r ≡ blockCount job ⌝ }
+{
+    (job.n + 31) / 32
+}
+
 // Sets the greatest bound of a block of 32 rows anew.
 fn set_block(ws: &[u32], job: Job, blocks: &mut [u32; 64], b: usize)
     requires { ⌜ Space job (now ws) × (32 * b < job .n) ⌝ }
@@ -100,7 +108,7 @@ fn set_block(ws: &[u32], job: Job, blocks: &mut [u32; 64], b: usize)
 
 // Sets the greatest bounds of the blocks from one up to another anew.
 fn set_blocks(ws: &[u32], job: Job, blocks: &mut [u32; 64], from: usize, to: usize)
-    requires { ⌜ Space job (now ws) × (to ≤ (job .n + 31) / 32) ⌝ }
+    requires { ⌜ Space job (now ws) × (to ≤ blockCount job) ⌝ }
     ensures { λ r. ⌜ Refreshed job (now (ws .entry)) from to (now (blocks .entry)) (now (blocks .exit)) ⌝ }
 {
     let mut b = from;
@@ -120,11 +128,40 @@ pub fn refresh(ws: &[u32], job: Job, blocks: &mut [u32; 64], p: PatternAt, rows:
     set_blocks(ws, job, blocks, from / 32, (to + 31) / 32);
 }
 
-// The greatest of all blocks.
-pub fn top(blocks: &[u32; 64]) -> usize
-    ensures { λ r. ⌜ Greatest (λ b. getD (now (blocks .entry)) b 0) 64 r ⌝ }
+// Whether row q stands in the block of row p and has the level for its bound.
+fn in_level(ws: &[u32], job: Job, level: usize, p: usize, q: usize) -> bool
+    requires { ⌜ Space job (now ws) ⌝ }
+    ensures { λ r. ⌜ r ≡ inLevel job (now (ws .entry)) level p q ⌝ }
 {
-    wide(greatest(blocks))
+    if job.n <= q {
+        return false;
+    }
+    if q / 32 != p / 32 {
+        return false;
+    }
+    bound_of(ws, job, PatternAt(q)) == level
+}
+
+// After the bounds of some rows from p on have fallen, none of which exceeded the level: their blocks are set anew. Where the row after them
+// stands in p's block and has the level for its bound, so has the block still, and nothing is done.
+pub fn renew(ws: &[u32], job: Job, blocks: &mut [u32; 64], level: usize, p: PatternAt, rows: usize)
+    requires { ⌜ Space job (now ws) × (p .0 ≤ job .n) × (rows ≤ 2048) ⌝ }
+    ensures { λ r. ⌜ Renewed job (now (ws .entry)) level (p .0) rows (now (blocks .entry)) (now (blocks .exit)) ⌝ }
+{
+    if in_level(ws, job, level, p.0, p.0 + rows) {
+        return;
+    }
+    refresh(ws, job, blocks, p, rows);
+}
+
+// The greatest of all blocks.
+pub fn top(blocks: &[u32; 64], job: Job) -> usize
+    requires { ⌜ job .n ≤ 2048 ⌝ }
+    ensures { λ r. ⌜ Greatest (λ b. getD (now (blocks .entry)) b 0) (blockCount job) r ⌝ }
+{
+    let count = block_count(job);
+    let all = &blocks[..];
+    wide(greatest(&all[0..count]))
 }
 
 // The next block from one on, of so many, that is not below the level; their number where there is none.
@@ -149,18 +186,35 @@ fn row_linked(ws: &[u32], job: Job, p: usize) -> usize
     chain::next_of(&ws[from..to], p)
 }
 
+// A free row after p up to which none has the level for its bound: rows of p's block are passed over as long as each has its neighbour for
+// the next free one, so that no step waits for the entry before it; from there it is the next one.
+fn row_along(ws: &[u32], job: Job, level: usize, p: usize) -> usize
+    requires { ⌜ Space job (now ws) × (1 ≤ level) × (p < job .n) ⌝ }
+    ensures { λ r. ⌜ Passing (λ q. bound job (now (ws .entry)) q ≡ level) (p + 1) (job .n) r ⌝ }
+{
+    let end = buffer::lesser(p / 32 * 32 + 32, job.n);
+    let mut q = p;
+    while q + 1 < end
+        && row_linked(ws, job, q) == q + 1
+        && bound_of(ws, job, PatternAt(q + 1)) != level
+    {
+        q += 1;
+    }
+    row_linked(ws, job, q)
+}
+
 // A row after p up to which none has the level for its bound: where p's block is below the level, the first of the next block that is not;
-// else the next free one.
+// else a free row of p's block, or the next one after it.
 fn row_past(ws: &[u32], job: Job, blocks: &[u32; 64], level: usize, p: usize) -> usize
     requires { ⌜ Space job (now ws) × Covering job (now ws) (now blocks) × (1 ≤ level) × (p < job .n) ⌝ }
     ensures { λ r. ⌜ Passing (λ q. bound job (now (ws .entry)) q ≡ level) (p + 1) (job .n) r ⌝ }
 {
     let b = p / 32;
     if wide(blocks[b]) < level {
-        let count = (job.n + 31) / 32;
+        let count = block_count(job);
         return buffer::lesser(32 * next_block(blocks, level, b + 1, count), job.n);
     }
-    row_linked(ws, job, p)
+    row_along(ws, job, level, p)
 }
 
 // The first row from `from` on whose bound is the level, or one past the last. Rows are taken from the chain, and blocks of rows that are

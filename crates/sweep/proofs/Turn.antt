@@ -11,7 +11,7 @@ use mathlib.Core.List.{List, _++_}
 use lib.ListN.{length, getD}
 use Rattle.bounds.specs.Workspace.{Space, state, bound}
 use Rattle.bounds.specs.Greatest.{Greatest}
-use Rattle.bounds.specs.Blocks.{Covering}
+use Rattle.bounds.specs.Blocks.{blockCount, Covering}
 use Rattle.chain.specs.First.{First}
 use Rattle.sweep.specs.Goal.{atGoal, untilGoal}
 use Rattle.sweep.specs.Progress.{Fits, Bounded, Onward, Sweeping, Over, Ready, Finished}
@@ -154,9 +154,9 @@ pub record Level (j : Job) (n : ℕ) (ws₀ b₀ : List ℕ) (k₀ : Totals) (ws
 pub level-least : (j : Job) → j .minimum ≤ j .minimum
 level-least j = omega arith
 
-pub level-none : (j : Job) (n : ℕ) (ws b : List ℕ) (k : Totals) (bs : List ℕ) (level : ℕ) → j .minimum ≤ n → Ready j ws b k → Covering j ws bs → Greatest (λ c. getD bs c 0) 64 level → Level j n ws b k ws b k bs level
+pub level-none : (j : Job) (n : ℕ) (ws b : List ℕ) (k : Totals) (bs : List ℕ) (level : ℕ) → j .minimum ≤ n → Ready j ws b k → Covering j ws bs → Greatest (λ c. getD bs c 0) (blockCount j) level → Level j n ws b k ws b k bs level
 level-none j n ws b k bs level h r c g =
-    record { ready = r; enough = h; covering = c; capped = λ going. covering-top j ws bs level (r .fits .space) c g; onward = onward-none j ws b k; same-room = refl; same-tiles = refl }
+    record { ready = r; enough = h; covering = c; capped = λ going. covering-top j ws bs level c g; onward = onward-none j ws b k; same-room = refl; same-tiles = refl }
 
 module _ (j : Job) (n : ℕ) (ws₀ b₀ : List ℕ) (k₀ : Totals) (ws b : List ℕ) (k : Totals) (bs : List ℕ) (level : ℕ) (l : Level j n ws₀ b₀ k₀ ws b k bs level) where
   unswept : atGoal k ≡ false → Bounded j ws level 0
@@ -170,13 +170,13 @@ module _ (j : Job) (n : ℕ) (ws₀ b₀ : List ℕ) (k₀ : Totals) (ws b : Lis
   level-going h r e f = level-sweep h (sym e ∙ f)
 
   -- After it every bound is below the level, or the goal is reached; and none exceeds the greatest of the blocks.
-  pub level-more : (ws' b' : List ℕ) (k' : Totals) (bs' : List ℕ) → Over j level ws' b' k' → Covering j ws' bs' → (top next : ℕ) → Greatest (λ c. getD bs' c 0) 64 top → next ≡ min (level - 1) top → Onward j ws b k ws' b' k' → length ws' ≡ length ws → length b' ≡ length b → Level j n ws₀ b₀ k₀ ws' b' k' bs' next
+  pub level-more : (ws' b' : List ℕ) (k' : Totals) (bs' : List ℕ) → Over j level ws' b' k' → Covering j ws' bs' → (top next : ℕ) → Greatest (λ c. getD bs' c 0) (blockCount j) top → next ≡ min (level - 1) top → Onward j ws b k ws' b' k' → length ws' ≡ length ws → length b' ≡ length b → Level j n ws₀ b₀ k₀ ws' b' k' bs' next
   level-more ws' b' k' bs' s c top next g e o v w =
       record {
         ready = record { fits = s .fits; upper = s .upper };
         enough = l .enough;
         covering = c;
-        capped = λ going q h. omega (arith, s .below going q h, covering-top j ws' bs' top (s .fits .space) c g q h, e);
+        capped = λ going q h. omega (arith, s .below going q h, covering-top j ws' bs' top c g q h, e);
         onward = onward-more j ws₀ b₀ ws b ws' b' k₀ k k' (l .onward) o;
         same-room = v ∙ l .same-room;
         same-tiles = w ∙ l .same-tiles;

@@ -1,6 +1,6 @@
--- `bounds::row_past` meets its contract: rows of a block below the level are below it, and rows between two free ones are covered and have no bound.
+-- `bounds::row_past` meets its contract: rows of a block below the level are below it.
 -- Assumes nothing.
-use Rattle.bounds.proofs.Blocks.{past-blocks, past-linked}
+use Rattle.bounds.proofs.Blocks.{past-blocks}
 use borrow.Author.Needs.{needs}
 use Rattle.bounds.proofs.row_past.Statement.{statement}
 use Rattle.bounds.proofs.row_past.Tie as tie
@@ -14,8 +14,8 @@ element-copy-out-wide c = search needs
 wide-requires : tie.Need-wide-requires
 wide-requires c κs = search needs
 
-add-count : tie.Need-add-count
-add-count c = search needs
+block-count-requires : tie.Need-block-count-requires
+block-count-requires c κs = search needs
 
 add-next-block : tie.Need-add-next-block
 add-next-block c = search needs
@@ -32,11 +32,11 @@ lesser-requires c κs = search needs
 returns : tie.Need-returns
 returns c = search past-blocks
 
-row-linked-requires : tie.Need-row-linked-requires
-row-linked-requires c κs = search needs
+row-along-requires : tie.Need-row-along-requires
+row-along-requires c κs = search needs
 
 returns-2 : tie.Need-returns-2
-returns-2 c = search past-linked
+returns-2 c = search needs
 
 pub row-past-spec : {M : Type 1} → statement M
 row-past-spec =
@@ -45,11 +45,11 @@ row-past-spec =
     mul-wide
     element-copy-out-wide
     wide-requires
-    add-count
+    block-count-requires
     add-next-block
     next-block-requires
     mul-lesser
     lesser-requires
     returns
-    row-linked-requires
+    row-along-requires
     returns-2)
