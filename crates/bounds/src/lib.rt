@@ -27,6 +27,13 @@ pub fn wide(w: u32) -> usize
     w as usize
 }
 
+// A half word as a word.
+pub fn word(half: u16) -> u32
+    ensures { λ r. ⌜ r ≡ half ⌝ }
+{
+    half as u32
+}
+
 // The bound of a row.
 pub fn bound_of(ws: &[u32], job: Job, p: PatternAt) -> usize
     requires { ⌜ Space job (now ws) × (p .0 < job .n) ⌝ }

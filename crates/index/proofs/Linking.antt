@@ -72,11 +72,11 @@ module _ (x : Pass) (t free : ℕ) (ws hs fs : List ℕ) (long : x .s ≤ free) 
       let k : takes x free (getD fs (slot (textHash (x .job) ws t)) 0) ≡ false = rw (← entry, z, le-leb (x .s) free long) refl in
       record { words = rw k refl; heads = rw k refl; filter = rw k refl; known = λ y. absurd (let o : _≡_ {A = ℕ} 0 1 = (let f : false ≡ true = sym k ∙ y in cc) in omega arith) }
 
-  pub entered-new : (e ≡ 0 → ⊥) → (b : ℕ) → b ≡ bucket (x .buckets) h → (ws' hs' fs' : List ℕ) → ws' ≡ set ws (boundsFrom (x .job) + x .job .n + t) (getD hs b 0) → hs' ≡ set hs b t → fs' ≡ set fs (slot h) 2 → getD fs' (slot h) 0 ≡ 2 → Entered x t free ws hs fs ws' hs' fs'
-  entered-new some b eb ws' hs' fs' ew eh' ef' known =
+  pub entered-new : (e ≡ 0 → ⊥) → (b : ℕ) → b ≡ bucket (x .buckets) h → (head : ℕ) → head ≡ getD hs b 0 → (ws' hs' fs' : List ℕ) → ws' ≡ set ws (boundsFrom (x .job) + x .job .n + t) head → hs' ≡ set hs b t → fs' ≡ set fs (slot h) 2 → getD fs' (slot h) 0 ≡ 2 → Entered x t free ws hs fs ws' hs' fs'
+  entered-new some b eb head first ws' hs' fs' ew eh' ef' known =
       let k : takes x free (getD fs (slot (textHash (x .job) ws t)) 0) ≡ true = rw (← entry, le-leb (x .s) free long) (lt-ltb 0 e (omega (arith, some))) in
       let c : b ≡ bucket (x .buckets) (textHash (x .job) ws t) = eb ∙ ap (bucket (x .buckets)) eh in
-      record { words = rw (k, ← c) ew; heads = rw (k, ← c) eh'; filter = rw (k, ← eh) ef'; known = λ y. rw (← eh) known }
+      record { words = rw (k, ← c, ← first) ew; heads = rw (k, ← c) eh'; filter = rw (k, ← eh) ef'; known = λ y. rw (← eh) known }
 
 -- ---- the windows of a stretch that begins at `from`
 pub record Backward (x : Pass) (from : ℕ) (ws₀ ws hs fs : List ℕ) (t free : ℕ) : Type 0 where

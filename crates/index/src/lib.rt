@@ -70,12 +70,20 @@ pub fn next_text(ws: &[u32], job: Job, t: TextAt) -> TextAt
     TextAt(bounds::wide(ws[at]))
 }
 
+// The head of a bucket.
+fn head_of(heads: &[u16; 1024], bucket: usize) -> u32
+    requires { ⌜ bucket < 1024 ⌝ }
+    ensures { λ r. ⌜ r ≡ getD (now (heads .entry)) bucket 0 ⌝ }
+{
+    bounds::word(heads[bucket])
+}
+
 // The first position of the text in a bucket; where there is none, 2,048, which is past every text.
-pub fn first_text(heads: &[u32; 1024], bucket: usize) -> TextAt
+pub fn first_text(heads: &[u16; 1024], bucket: usize) -> TextAt
     requires { ⌜ bucket < 1024 ⌝ }
     ensures { λ r. ⌜ r .0 ≡ getD (now (heads .entry)) bucket 0 ⌝ }
 {
-    TextAt(bounds::wide(heads[bucket]))
+    TextAt(bounds::wide(head_of(heads, bucket)))
 }
 
 // The entry of the filter for a hash: 0 where the pattern has no free window with that entry, 1 where it has one, and 2 where a
@@ -182,12 +190,12 @@ fn set_link(ws: &mut [u32], job: Job, t: TextAt, value: u32)
 }
 
 // Makes a position of the text the head of its bucket, and sets its entry of the filter.
-fn enter(heads: &mut [u32; 1024], filter: &mut [u8; 4096], bucket: usize, h: u32, t: TextAt)
+fn enter(heads: &mut [u16; 1024], filter: &mut [u8; 4096], bucket: usize, h: u32, t: TextAt)
     requires { ⌜ (bucket < 1024) × (t .0 ≤ 2048) ⌝ }
     ensures { λ r. ⌜ now (heads .exit) ≡ set (now (heads .entry)) bucket (t .0) ⌝ }
     ensures { λ r. ⌜ (now (filter .exit) ≡ set (now (filter .entry)) (slot h) 2) × (getD (now (filter .exit)) (slot h) 0 ≡ 2) ⌝ }
 {
-    heads[bucket] = t.0 as u32;
+    heads[bucket] = t.0 as u16;
     put(filter, slot_of(h), 2);
 }
 
@@ -198,7 +206,7 @@ fn link_window(
     pass: Pass,
     t: TextAt,
     free: usize,
-    heads: &mut [u32; 1024],
+    heads: &mut [u16; 1024],
     filter: &mut [u8; 4096],
 )
     requires { ⌜ Space (pass .job) (now ws) × (t .0 < pass .job .m) × (1 ≤ pass .buckets) × (pass .buckets ≤ 1024) ⌝ }
@@ -212,7 +220,7 @@ fn link_window(
         return;
     }
     let bucket = bucket_of(h, pass.buckets);
-    set_link(ws, pass.job, t, heads[bucket]);
+    set_link(ws, pass.job, t, head_of(heads, bucket));
     enter(heads, filter, bucket, h, t);
 }
 
@@ -221,7 +229,7 @@ fn link_stretch(
     ws: &mut [u32],
     pass: Pass,
     part: Texts,
-    heads: &mut [u32; 1024],
+    heads: &mut [u16; 1024],
     filter: &mut [u8; 4096],
 )
     requires { ⌜ Space (pass .job) (now ws) × Ranges pass × (part .from .0 ≤ part .to .0) × (0 ≡ freeAt (pass .job) (now ws) (part .to .0)) × LinkedFrom pass (now ws) (now heads) (now filter) (part .to .0) ⌝ }
@@ -243,7 +251,7 @@ fn enter_texts(
     pass: Pass,
     weight: u32,
     part: Texts,
-    heads: &mut [u32; 1024],
+    heads: &mut [u16; 1024],
     filter: &mut [u8; 4096],
 )
     requires { ⌜ Ranges pass × (weight ≡ weightOf pass) × Stretched (state (pass .job) (now ws) .text) (part .from .0) (part .to .0) × (pass .s ≤ part .to .0 - part .from .0) × TextsFrom pass (now ws) (now heads) (now filter) (part .to .0) ⌝ }
@@ -261,7 +269,7 @@ fn link_text_stretch(
     pass: Pass,
     weight: u32,
     part: Texts,
-    heads: &mut [u32; 1024],
+    heads: &mut [u16; 1024],
     filter: &mut [u8; 4096],
 )
     requires { ⌜ Ranges pass × (weight ≡ weightOf pass) × Stretched (state (pass .job) (now ws) .text) (part .from .0) (part .to .0) × TextsFrom pass (now ws) (now heads) (now filter) (part .to .0) ⌝ }
@@ -279,7 +287,7 @@ fn link_windows(
     ws: &mut [u32],
     pass: Pass,
     weight: u32,
-    heads: &mut [u32; 1024],
+    heads: &mut [u16; 1024],
     filter: &mut [u8; 4096],
 )
     requires { ⌜ Ranges pass × (weight ≡ weightOf pass) × (now heads ≡ replicate 1024 2048) × RowsFrom pass (now ws) (now filter) 0 ⌝ }
@@ -295,7 +303,7 @@ fn link_windows(
 
 // Hashes every free window of s words, and links those of the text by bucket whose hash the pattern may have. Windows are taken from
 // the stretches of free words. Every head must be 2,048, past every text, and every entry of the filter 0.
-pub fn build(ws: &mut [u32], pass: Pass, heads: &mut [u32; 1024], filter: &mut [u8; 4096])
+pub fn build(ws: &mut [u32], pass: Pass, heads: &mut [u16; 1024], filter: &mut [u8; 4096])
     requires { ⌜ Space (pass .job) (now ws) × Ranges pass × (now heads ≡ replicate 1024 2048) × (now filter ≡ replicate 4096 0) ⌝ }
     ensures { λ r. ⌜ Built pass (now (ws .entry)) (now (ws .exit)) (now (heads .exit)) (now (filter .exit)) ⌝ }
 {

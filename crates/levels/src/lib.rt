@@ -23,7 +23,7 @@ struct Turn {
 fn lay_row(
     ws: &mut [u32],
     pass: Pass,
-    heads: &[u32; 1024],
+    heads: &[u16; 1024],
     found: Found,
     tiles: &mut [u32],
     turn: Turn,
@@ -42,8 +42,8 @@ fn lay_row(
 fn visit(
     ws: &mut [u32],
     pass: Pass,
-    heads: &[u32; 1024],
-    last: &mut [u32; 1024],
+    heads: &[u16; 1024],
+    last: &mut [u16; 1024],
     p: PatternAt,
     tiles: &mut [u32],
     totals: Totals,
@@ -68,8 +68,8 @@ fn visit(
 fn step(
     ws: &mut [u32],
     pass: Pass,
-    heads: &[u32; 1024],
-    last: &mut [u32; 1024],
+    heads: &[u16; 1024],
+    last: &mut [u16; 1024],
     blocks: &mut [u32; 64],
     tiles: &mut [u32],
     turn: Turn,
@@ -83,7 +83,7 @@ fn step(
     let level = bounds::bound_of(ws, pass.job, turn.p);
     let sum = visit(ws, pass, heads, last, turn.p, tiles, turn.totals);
     let rows = sweep::settled_rows(turn.totals, sum, level);
-    bounds::refresh(ws, pass.job, blocks, turn.p, rows);
+    bounds::renew(ws, pass.job, blocks, level, turn.p, rows);
     sum
 }
 
@@ -91,8 +91,8 @@ fn step(
 fn sweep_rows(
     ws: &mut [u32],
     pass: Pass,
-    heads: &[u32; 1024],
-    last: &mut [u32; 1024],
+    heads: &[u16; 1024],
+    last: &mut [u16; 1024],
     blocks: &mut [u32; 64],
     tiles: &mut [u32],
     round: Round,
@@ -118,8 +118,8 @@ fn sweep_rows(
 pub fn lay_levels(
     ws: &mut [u32],
     pass: Pass,
-    heads: &[u32; 1024],
-    last: &mut [u32; 1024],
+    heads: &[u16; 1024],
+    last: &mut [u16; 1024],
     blocks: &mut [u32; 64],
     tiles: &mut [u32],
     totals: Totals,
@@ -128,11 +128,11 @@ pub fn lay_levels(
     ensures { λ r. ⌜ Finished (pass .job) (pass .s) (now (ws .entry)) (now (tiles .entry)) totals (now (ws .exit)) (now (tiles .exit)) r ⌝ }
 {
     let mut sum = totals;
-    let mut level = bounds::top(blocks);
+    let mut level = bounds::top(blocks, pass.job);
     while pass.s <= level && !sweep::at_goal(sum) {
         let round = Round { level, totals: sum };
         sum = sweep_rows(ws, pass, heads, last, blocks, tiles, round);
-        level = buffer::lesser(level - 1, bounds::top(blocks));
+        level = buffer::lesser(level - 1, bounds::top(blocks, pass.job));
     }
     sum
 }

@@ -33,9 +33,9 @@ fn at_length(pass: Pass, s: usize) -> Pass
 fn prepare(
     ws: &mut [u32],
     pass: Pass,
-    heads: &mut [u32; 1024],
+    heads: &mut [u16; 1024],
     filter: &mut [u8; 4096],
-    last: &mut [u32; 1024],
+    last: &mut [u16; 1024],
     blocks: &mut [u32; 64],
 )
     requires { ⌜ Space (pass .job) (now ws) × Ranges pass × (now heads ≡ replicate 1024 2048) × (now filter ≡ replicate 4096 0) ⌝ }
@@ -52,9 +52,9 @@ fn one_pass(ws: &mut [u32], pass: Pass, tiles: &mut [u32], totals: Totals) -> To
     requires { ⌜ Fits (pass .job) (now ws) (now tiles) totals × Ranges pass ⌝ }
     ensures { λ r. ⌜ Finished (pass .job) (pass .s) (now (ws .entry)) (now (tiles .entry)) totals (now (ws .exit)) (now (tiles .exit)) r ⌝ }
 {
-    let mut heads = [2048u32; 1024];
+    let mut heads = [2048u16; 1024];
     let mut filter = [0u8; 4096];
-    let mut last = [2048u32; 1024];
+    let mut last = [2048u16; 1024];
     let mut blocks = [0u32; 64];
     prepare(ws, pass, &mut heads, &mut filter, &mut last, &mut blocks);
     levels::lay_levels(ws, pass, &heads, &mut last, &mut blocks, tiles, totals)

@@ -123,7 +123,7 @@ fn begin(ws: &[u32], pass: Pass, p: PatternAt) -> Walk
 
 // Searches row p for its longest run, where it has at least s words, and the first position on the text that has it; or the first
 // run of at least cap words that is met. Only the positions in the bucket of p's window are visited.
-fn row_search(ws: &[u32], pass: Pass, heads: &[u32; 1024], p: PatternAt, cap: usize) -> Walk
+fn row_search(ws: &[u32], pass: Pass, heads: &[u16; 1024], p: PatternAt, cap: usize) -> Walk
     requires { ⌜ Space (pass .job) (now ws) × Indexed pass (now ws) (now heads) × Ranges pass × (p .0 < pass .job .n) ⌝ }
     ensures { λ r. ⌜ Reached (drop (p .0) (state (pass .job) (now (ws .entry)) .pattern)) (state (pass .job) (now (ws .entry)) .text) (pass .s - 1) cap (r .found) ⌝ }
 {
@@ -138,15 +138,15 @@ fn row_search(ws: &[u32], pass: Pass, heads: &[u32; 1024], p: PatternAt, cap: us
 }
 
 // The row that was remembered at a place; 2,048, which is past every pattern, where there is none.
-fn last_row(last: &[u32; 1024], at: usize) -> PatternAt
+fn last_row(last: &[u16; 1024], at: usize) -> PatternAt
     requires { ⌜ at < 1024 ⌝ }
     ensures { λ r. ⌜ r .0 ≡ getD (now (last .entry)) at 0 ⌝ }
 {
-    PatternAt(bounds::wide(last[at]))
+    PatternAt(bounds::wide(bounds::word(last[at])))
 }
 
 // Remembers a row at the place of its window's hash, where its longest run is shorter than cap.
-fn remember(ws: &[u32], pass: Pass, last: &mut [u32; 1024], p: PatternAt, len: usize, cap: usize)
+fn remember(ws: &[u32], pass: Pass, last: &mut [u16; 1024], p: PatternAt, len: usize, cap: usize)
     requires { ⌜ Space (pass .job) (now ws) × (p .0 < pass .job .n) ⌝ }
     ensures { λ r. ⌜ now (last .exit) ≡ when (ltb len cap) (set (now (last .entry)) (place (patternHash (pass .job) (now (ws .entry)) (p .0))) (p .0)) (now (last .entry)) ⌝ }
 {
@@ -155,15 +155,15 @@ fn remember(ws: &[u32], pass: Pass, last: &mut [u32; 1024], p: PatternAt, len: u
     }
     let own = index::pattern_hash(ws, pass.job, p);
     let at = index::place_of(own);
-    last[at] = p.0 as u32;
+    last[at] = p.0 as u16;
 }
 
 // Searches row p, and remembers it.
 fn search_row(
     ws: &[u32],
     pass: Pass,
-    heads: &[u32; 1024],
-    last: &mut [u32; 1024],
+    heads: &[u16; 1024],
+    last: &mut [u16; 1024],
     p: PatternAt,
     cap: usize,
 ) -> Found
@@ -180,7 +180,7 @@ fn search_row(
 fn told(
     ws: &[u32],
     pass: Pass,
-    last: &[u32; 1024],
+    last: &[u16; 1024],
     p: PatternAt,
     from: PatternAt,
     cap: usize,
@@ -204,8 +204,8 @@ fn told(
 pub fn find(
     ws: &[u32],
     pass: Pass,
-    heads: &[u32; 1024],
-    last: &mut [u32; 1024],
+    heads: &[u16; 1024],
+    last: &mut [u16; 1024],
     p: PatternAt,
     cap: usize,
 ) -> Found
@@ -245,8 +245,8 @@ fn goes_on(ws: &[u32], job: Job, p: PatternAt, t: TextAt) -> bool
 fn capped(
     ws: &[u32],
     pass: Pass,
-    heads: &[u32; 1024],
-    last: &mut [u32; 1024],
+    heads: &[u16; 1024],
+    last: &mut [u16; 1024],
     p: PatternAt,
     after: TextAt,
     cap: usize,
@@ -269,9 +269,9 @@ fn capped(
 fn row_bound(
     ws: &[u32],
     pass: Pass,
-    heads: &[u32; 1024],
+    heads: &[u16; 1024],
     filter: &[u8; 4096],
-    last: &mut [u32; 1024],
+    last: &mut [u16; 1024],
     p: PatternAt,
     after: Found,
 ) -> Found
@@ -311,9 +311,9 @@ fn row_bound(
 fn fill_stretch(
     ws: &mut [u32],
     pass: Pass,
-    heads: &[u32; 1024],
+    heads: &[u16; 1024],
     filter: &[u8; 4096],
-    last: &mut [u32; 1024],
+    last: &mut [u16; 1024],
     part: Rows,
 )
     requires { ⌜ Space (pass .job) (now ws) × Indexed pass (now ws) (now heads) × Filtered pass (now ws) (now filter) × Ranges pass × NextRows (pass .job) (now ws) (part .from .0) (part .to .0) ⌝ }
@@ -336,9 +336,9 @@ fn fill_stretch(
 pub fn fill_bounds(
     ws: &mut [u32],
     pass: Pass,
-    heads: &[u32; 1024],
+    heads: &[u16; 1024],
     filter: &[u8; 4096],
-    last: &mut [u32; 1024],
+    last: &mut [u16; 1024],
 )
     requires { ⌜ Space (pass .job) (now ws) × Indexed pass (now ws) (now heads) × Filtered pass (now ws) (now filter) × Ranges pass ⌝ }
     ensures { λ r. ⌜ FilledRows pass (now (heads .entry)) (now (ws .entry)) (now (ws .exit)) ⌝ }

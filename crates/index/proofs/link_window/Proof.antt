@@ -24,11 +24,8 @@ returns-2 c = search entered-unknown
 bucket-of-requires : tie.Need-bucket-of-requires
 bucket-of-requires c κs = search needs
 
-mul-set-link : tie.Need-mul-set-link
-mul-set-link c = search needs
-
-element-copy-out-set-link : tie.Need-element-copy-out-set-link
-element-copy-out-set-link c = search needs
+head-of-requires : tie.Need-head-of-requires
+head-of-requires c κs = search needs
 
 set-link-requires : tie.Need-set-link-requires
 set-link-requires c κs = search needs
@@ -52,8 +49,7 @@ link-window-spec =
     same-length
     returns-2
     bucket-of-requires
-    mul-set-link
-    element-copy-out-set-link
+    head-of-requires
     set-link-requires
     enter-requires
     same-length-2
