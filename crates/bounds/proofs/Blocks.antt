@@ -17,7 +17,7 @@ use Rattle.chain.proofs.First.{passing-none, passing-to, passing-one}
 use Rattle.chain.proofs.Links.{next-above}
 use Rattle.bounds.specs.Workspace.{Space, state, bound, patternChain}
 use Rattle.bounds.specs.Greatest.{Greatest}
-use Rattle.bounds.specs.Blocks.{blockCount, Tops, BlockSet, Refreshed, inLevel, Renewed, Covering, Falling}
+use Rattle.bounds.specs.Blocks.{blockCount, Tops, BlockSet, Refreshed, rowsEnd, inLevel, Renewed, Covering, Falling}
 use Rattle.bounds.specs.declared.Job.{Job}
 use Rattle.bounds.proofs.Most.{greatest-same, greatest-part}
 use Rattle.bounds.proofs.Workspace.{pattern-length}
@@ -72,9 +72,9 @@ module _ (j : Job) (ws : List ℕ) (from to b : ℕ) (bs₀ bs : List ℕ) (i : 
       after c l (yes m) = i .done .before c m
       after c l (no m) = i .done .after c (omega (arith, m, i .most))
 
--- Of some rows.
-pub refreshed-rows : (j : Job) (ws : List ℕ) (p rows least : ℕ) (bs bs' : List ℕ) → least ≡ min rows (j .n - p) → Refreshed j ws (p / 32) ((p + least + 31) / 32) bs bs' → Refreshed j ws (p / 32) ((p + min rows (j .n - p) + 31) / 32) bs bs'
-refreshed-rows j ws p rows least bs bs' e r = rw (← e) r
+-- Of all.
+pub refreshed-all : (j : Job) (ws : List ℕ) (count : ℕ) (bs bs' : List ℕ) → count ≡ blockCount j → Refreshed j ws 0 count bs bs' → Refreshed j ws 0 (blockCount j) bs bs'
+refreshed-all j ws count bs bs' e r = rw (← e) r
 
 -- ---- unless the row after them is in the level
 module _ (j : Job) (ws : List ℕ) (level p q : ℕ) where
@@ -91,12 +91,12 @@ module _ (j : Job) (ws : List ℕ) (level p q : ℕ) where
 not-both : true ≡ false → ⊥
 not-both e = let z : _≡_ {A = ℕ} 0 1 = cc in omega arith
 
-module _ (j : Job) (ws : List ℕ) (level p rows : ℕ) (bs : List ℕ) (b : Bool) (e : b ≡ inLevel j ws level p (p + rows)) where
-  pub renewed-kept : b ≡ true → Renewed j ws level p rows bs bs
-  renewed-kept t = record { kept = λ k. refl; anew = λ k. absurd (not-both (sym t ∙ (e ∙ k))) }
+module _ (j : Job) (ws : List ℕ) (level from rows least : ℕ) (some : least ≡ min rows (j .n - from)) (bs : List ℕ) (b : Bool) (e : b ≡ inLevel j ws level from (from + least)) where
+  pub renewed-kept : b ≡ true → Renewed j ws level from (rowsEnd j from rows) bs bs
+  renewed-kept t = rw (← some) (record { kept = λ k. refl; anew = λ k. absurd (not-both (sym t ∙ (e ∙ k))) })
 
-  pub renewed-anew : b ≡ false → (bs' : List ℕ) → Refreshed j ws (p / 32) ((p + min rows (j .n - p) + 31) / 32) bs bs' → Renewed j ws level p rows bs bs'
-  renewed-anew f bs' r = record { kept = λ k. absurd (not-both (sym k ∙ (sym e ∙ f))); anew = λ k. r }
+  pub renewed-anew : b ≡ false → (bs' : List ℕ) → Refreshed j ws (from / 32) ((from + least + 31) / 32) bs bs' → Renewed j ws level from (rowsEnd j from rows) bs bs'
+  renewed-anew f bs' r = rw (← some) (record { kept = λ k. absurd (not-both (sym k ∙ (sym e ∙ f))); anew = λ k. r })
 
 -- ---- bounds of bounds
 -- A row's bound is one of its block's.
@@ -114,20 +114,19 @@ covering-refreshed j ws from to bs bs' c r = record { most = λ q h. most q h (d
     most q h (no l) (no m) = rw (r .after (q / 32) (omega (arith, m))) (c .most q h)
 
 -- After bounds fell, and some blocks were set anew, or none was.
-pub covering-after : (j : Job) (ws ws' : List ℕ) (level p rows : ℕ) (bs bs' : List ℕ) → Covering j ws bs → Falling j ws ws' → Renewed j ws' level p rows bs bs' → Covering j ws' bs'
-covering-after j ws ws' level p rows bs bs' c f r = go (inLevel j ws' level p (p + rows)) refl
+pub covering-after : (j : Job) (ws ws' : List ℕ) (level from to : ℕ) (bs bs' : List ℕ) → Covering j ws bs → Falling j ws ws' → Renewed j ws' level from to bs bs' → Covering j ws' bs'
+covering-after j ws ws' level from to bs bs' c f r = go (inLevel j ws' level from to) refl
   where
     fallen : Covering j ws' bs
     fallen = record { most = λ q h. omega (arith, c .most q h, f .falls q h) }
 
-    go : (b : Bool) → inLevel j ws' level p (p + rows) ≡ b → Covering j ws' bs'
+    go : (b : Bool) → inLevel j ws' level from to ≡ b → Covering j ws' bs'
     go true e = rw (r .kept e) fallen
-    go false e = covering-refreshed j ws' (p / 32) ((p + min rows (j .n - p) + 31) / 32) bs bs' fallen (r .anew e)
+    go false e = covering-refreshed j ws' (from / 32) ((to + 31) / 32) bs bs' fallen (r .anew e)
 
 -- All blocks set anew.
-pub covering-all : (j : Job) (ws : List ℕ) (p : ℕ) (bs bs' : List ℕ) → p ≡ 0 → Refreshed j ws (p / 32) ((p + min (j .n) (j .n - p) + 31) / 32) bs bs' → Covering j ws bs'
-covering-all j ws p bs bs' z r =
-    record { most = λ q h. tops-row j ws q (getD bs' (q / 32) 0) h (r .anew (q / 32) (omega (arith, z)) (omega (arith, z))) }
+pub covering-all : (j : Job) (ws bs bs' : List ℕ) → Refreshed j ws 0 (blockCount j) bs bs' → Covering j ws bs'
+covering-all j ws bs bs' r = record { most = λ q h. tops-row j ws q (getD bs' (q / 32) 0) h (r .anew (q / 32) (omega arith) (omega arith)) }
 
 -- No bound exceeds the greatest of the blocks.
 pub covering-top : (j : Job) (ws bs : List ℕ) (top : ℕ) → Covering j ws bs → Greatest (λ b. getD bs b 0) (blockCount j) top → (q : ℕ) → q < j .n → bound j ws q ≤ top

@@ -34,10 +34,14 @@ pub record Refreshed (j : Job) (ws : List ℕ) (from to : ℕ) (bs bs' : List �
 abbrev pub inLevel : Job → List ℕ → ℕ → ℕ → ℕ → Bool
 inLevel j ws level p q = ltb q (j .n) && (eqb (q / 32) (p / 32) && eqb (bound j ws q) level)
 
--- The blocks of some rows from p on were set anew, unless the row after them is in the level.
-pub record Renewed (j : Job) (ws : List ℕ) (level p rows : ℕ) (bs bs' : List ℕ) : Type 0 where
-  pub kept : inLevel j ws level p (p + rows) ≡ true → bs' ≡ bs
-  pub anew : inLevel j ws level p (p + rows) ≡ false → Refreshed j ws (p / 32) ((p + min rows (j .n - p) + 31) / 32) bs bs'
+-- Where some rows from p on end.
+abbrev pub rowsEnd : Job → ℕ → ℕ → ℕ
+rowsEnd j p rows = p + min rows (j .n - p)
+
+-- The blocks of the rows from one up to another were set anew, unless the row after them is in the level.
+pub record Renewed (j : Job) (ws : List ℕ) (level from to : ℕ) (bs bs' : List ℕ) : Type 0 where
+  pub kept : inLevel j ws level from to ≡ true → bs' ≡ bs
+  pub anew : inLevel j ws level from to ≡ false → Refreshed j ws (from / 32) ((to + 31) / 32) bs bs'
 
 -- No bound of a row exceeds what stands for its block. It may be less: bounds fall before their blocks are set anew.
 pub record Covering (j : Job) (ws bs : List ℕ) : Type 0 where

@@ -10,7 +10,7 @@ ghost use Rattle.chain.specs.Chain.{nextOf, Ranged};
 ghost use Rattle.chain.specs.Stretches.{StretchBefore};
 ghost use Rattle.bounds.specs.Workspace.{Space, state, boundsFrom, bound, patternChain, marked, unlinkedIn, laid};
 ghost use Rattle.bounds.specs.Greatest.{Greatest};
-ghost use Rattle.bounds.specs.Blocks.{blockCount, BlockSet, Refreshed, inLevel, Renewed, Covering};
+ghost use Rattle.bounds.specs.Blocks.{blockCount, BlockSet, Refreshed, rowsEnd, inLevel, Renewed, Covering};
 
 // What a comparison works on: the lengths of pattern and text, the minimum, and whether the first sequence is the pattern.
 pub struct Job {
@@ -125,14 +125,12 @@ fn set_blocks(ws: &[u32], job: Job, blocks: &mut [u32; 64], from: usize, to: usi
     }
 }
 
-// Sets the greatest bounds of the blocks of some rows from p on anew.
-pub fn refresh(ws: &[u32], job: Job, blocks: &mut [u32; 64], p: PatternAt, rows: usize)
-    requires { ⌜ Space job (now ws) × (p .0 ≤ job .n) ⌝ }
-    ensures { λ r. ⌜ Refreshed job (now (ws .entry)) (p .0 / 32) ((p .0 + min rows (job .n - p .0) + 31) / 32) (now (blocks .entry)) (now (blocks .exit)) ⌝ }
+// Sets the greatest bounds of all blocks anew.
+pub fn refresh(ws: &[u32], job: Job, blocks: &mut [u32; 64])
+    requires { ⌜ Space job (now ws) ⌝ }
+    ensures { λ r. ⌜ Refreshed job (now (ws .entry)) 0 (blockCount job) (now (blocks .entry)) (now (blocks .exit)) ⌝ }
 {
-    let from = p.0;
-    let to = from + buffer::lesser(rows, job.n - from);
-    set_blocks(ws, job, blocks, from / 32, (to + 31) / 32);
+    set_blocks(ws, job, blocks, 0, block_count(job));
 }
 
 // Whether row q stands in the block of row p and has the level for its bound.
@@ -149,16 +147,18 @@ fn in_level(ws: &[u32], job: Job, level: usize, p: usize, q: usize) -> bool
     bound_of(ws, job, PatternAt(q)) == level
 }
 
-// After the bounds of some rows from p on have fallen, none of which exceeded the level: their blocks are set anew. Where the row after them
+// After the bounds of some rows from p on have fallen, of which none exceeded the level: their blocks are set anew. Where the row after them
 // stands in p's block and has the level for its bound, so has the block still, and nothing is done.
 pub fn renew(ws: &[u32], job: Job, blocks: &mut [u32; 64], level: usize, p: PatternAt, rows: usize)
-    requires { ⌜ Space job (now ws) × (p .0 ≤ job .n) × (rows ≤ 2048) ⌝ }
-    ensures { λ r. ⌜ Renewed job (now (ws .entry)) level (p .0) rows (now (blocks .entry)) (now (blocks .exit)) ⌝ }
+    requires { ⌜ Space job (now ws) × (p .0 ≤ job .n) ⌝ }
+    ensures { λ r. ⌜ Renewed job (now (ws .entry)) level (p .0) (rowsEnd job (p .0) rows) (now (blocks .entry)) (now (blocks .exit)) ⌝ }
 {
-    if in_level(ws, job, level, p.0, p.0 + rows) {
+    let from = p.0;
+    let to = from + buffer::lesser(rows, job.n - from);
+    if in_level(ws, job, level, from, to) {
         return;
     }
-    refresh(ws, job, blocks, p, rows);
+    set_blocks(ws, job, blocks, from / 32, (to + 31) / 32);
 }
 
 // The greatest of all blocks.

@@ -12,7 +12,7 @@ use Rattle.tiling.specs.Tiling.{runAt}
 use Rattle.bounds.specs.Workspace.{state, boundsFrom, bound, laid}
 use Rattle.bounds.specs.Greatest.{Greatest}
 use Rattle.chain.specs.First.{First}
-use Rattle.bounds.specs.Blocks.{Covering, Falling}
+use Rattle.bounds.specs.Blocks.{blockCount, Covering, Falling}
 use Rattle.sweep.specs.Goal.{atGoal}
 use Rattle.sweep.specs.Progress.{UpperFrom, Onward, Sweeping, Over, Searched, Ready, Finished}
 use Rattle.sweep.specs.declared.Found.{Found}
@@ -134,14 +134,14 @@ pub record Lowering (x : Pass) (heads ws₀ b₀ : List ℕ) (k₀ : Totals) (ws
   pub indexed : Indexed x ws heads
   pub ranges : Ranges x
 
-pub lowering-none : (x : Pass) (heads ws b : List ℕ) (k : Totals) (bs : List ℕ) (level : ℕ) → Ready (x .job) ws b k → Covering (x .job) ws bs → Indexed x ws heads → Ranges x → Greatest (λ c. getD bs c 0) 64 level → Lowering x heads ws b k ws b k bs level
+pub lowering-none : (x : Pass) (heads ws b : List ℕ) (k : Totals) (bs : List ℕ) (level : ℕ) → Ready (x .job) ws b k → Covering (x .job) ws bs → Indexed x ws heads → Ranges x → Greatest (λ c. getD bs c 0) (blockCount (x .job)) level → Lowering x heads ws b k ws b k bs level
 lowering-none x heads ws b k bs level r c index ranges g = record { levels = level-none (x .job) (x .s) ws b k bs level (ranges .enough) r c g; indexed = index; ranges = ranges }
 
 module _ (x : Pass) (heads ws₀ b₀ : List ℕ) (k₀ : Totals) (ws b : List ℕ) (k : Totals) (bs : List ℕ) (level : ℕ) (i : Lowering x heads ws₀ b₀ k₀ ws b k bs level) where
   pub lowering-sweep : x .s ≤ level → atGoal k ≡ false → Sweeping (x .job) level 0 ws b k
   lowering-sweep = level-sweep (x .job) (x .s) ws₀ b₀ k₀ ws b k bs level (i .levels)
 
-  pub lowering-more : (ws' b' : List ℕ) (k' : Totals) (bs' : List ℕ) → Over (x .job) level ws' b' k' → Covering (x .job) ws' bs' → (top next : ℕ) → Greatest (λ c. getD bs' c 0) 64 top → next ≡ min (level - 1) top → Onward (x .job) ws b k ws' b' k' → Indexed x ws' heads → length ws' ≡ length ws → length b' ≡ length b → Lowering x heads ws₀ b₀ k₀ ws' b' k' bs' next
+  pub lowering-more : (ws' b' : List ℕ) (k' : Totals) (bs' : List ℕ) → Over (x .job) level ws' b' k' → Covering (x .job) ws' bs' → (top next : ℕ) → Greatest (λ c. getD bs' c 0) (blockCount (x .job)) top → next ≡ min (level - 1) top → Onward (x .job) ws b k ws' b' k' → Indexed x ws' heads → length ws' ≡ length ws → length b' ≡ length b → Lowering x heads ws₀ b₀ k₀ ws' b' k' bs' next
   lowering-more ws' b' k' bs' w c top next g e o index a d =
       record {
         levels = level-more (x .job) (x .s) ws₀ b₀ k₀ ws b k bs level (i .levels) ws' b' k' bs' w c top next g e o a d;

@@ -44,7 +44,7 @@ fn prepare(
 {
     index::build(ws, pass, heads, filter);
     rows::fill_bounds(ws, pass, heads, filter, last);
-    bounds::refresh(ws, pass.job, blocks, PatternAt(0), pass.job.n);
+    bounds::refresh(ws, pass.job, blocks);
 }
 
 // A pass: every tile of at least s words is laid, until the goal.

@@ -348,7 +348,7 @@ fn step(
     let level = bounds::bound_of(ws, job, p);
     let sum = visit(ws, job, last, p, tiles, totals);
     let rows = sweep::settled_rows(totals, sum, level);
-    bounds::refresh(ws, job, blocks, p, rows);
+    bounds::renew(ws, job, blocks, level, p, rows);
     sum
 }
 
@@ -389,11 +389,11 @@ fn lay_all(
     ensures { λ r. ⌜ Finished job (job .minimum) (now (ws .entry)) (now (tiles .entry)) totals (now (ws .exit)) (now (tiles .exit)) r ⌝ }
 {
     let mut sum = totals;
-    let mut level = bounds::top(blocks);
+    let mut level = bounds::top(blocks, job);
     while job.minimum <= level && !sweep::at_goal(sum) {
         let round = Round { level, totals: sum };
         sum = sweep_rows(ws, job, last, blocks, tiles, round);
-        level = buffer::lesser(level - 1, bounds::top(blocks));
+        level = buffer::lesser(level - 1, bounds::top(blocks, job));
     }
     sum
 }
@@ -405,7 +405,7 @@ fn prepare(ws: &mut [u32], job: Job, last: &mut usize, blocks: &mut [u32; 64])
     ensures { λ r. ⌜ Covering job (now (ws .exit)) (now (blocks .exit)) ⌝ }
 {
     fill_bounds(ws, job, last);
-    bounds::refresh(ws, job, blocks, PatternAt(0), job.n);
+    bounds::refresh(ws, job, blocks);
 }
 
 // Lays every tile of at least the minimum, from the state that the workspace holds, until the goal.
