@@ -2,7 +2,6 @@
 // one pass, at the minimum, is all.
 use index::Pass;
 use sweep::Totals;
-use tile::PatternAt;
 ghost use mathlib.Core.Path.{_≡_};
 ghost use mathlib.Core.Bool.{false};
 ghost use Prim.Native.Nat.{_<_};
