@@ -9,17 +9,16 @@ use tile::PatternAt;
 use tile::TextAt;
 use tiling::Compared;
 ghost use mathlib.Core.Path.{_≡_};
-ghost use mathlib.Core.Bool.{false, not};
+ghost use mathlib.Core.Bool.{false};
 ghost use Prim.Native.Nat.{_+_, _-_, _≤_, _<_, min};
-ghost use lib.Dec.{eqb};
-ghost use lib.ListN.{length, drop, getD};
+ghost use lib.ListN.{length, drop};
 ghost use Rattle.symbol.specs.Sequence.{Current};
 ghost use Rattle.tiling.specs.Run.{equalRun};
 ghost use Rattle.tiling.specs.Comparing.{plainRefusal, Comparable};
 ghost use Rattle.measure.specs.Block.{counted};
 ghost use Rattle.bounds.specs.Workspace.{Space, state, bound};
 ghost use Rattle.sweep.specs.Row.{Row, passedOver};
-ghost use Rattle.chain.specs.First.{First};
+ghost use Rattle.chain.specs.First.{First, Passing};
 ghost use Rattle.chain.specs.Chain.{Free, Chained};
 ghost use Rattle.bounds.specs.Blocks.{Covering, Falling};
 ghost use Rattle.sweep.specs.Goal.{atGoal};
@@ -27,7 +26,7 @@ ghost use Rattle.sweep.specs.Progress.{Fits, Searched, UpperFrom, RowBound, Nex
 ghost use Rattle.ends.specs.Result.{Room, Ran};
 ghost use Rattle.plain.specs.Promise.{Plain};
 ghost use Rattle.plain.specs.Bounds.{Capped, goesOn};
-ghost use Rattle.plain.specs.Pair.{SideBySide, Looked};
+ghost use Rattle.plain.specs.Pair.{SideBySide};
 
 // How many positions of the text are looked at as a whole, before the chain is asked where to go on.
 const PART: usize = 1024;
@@ -47,8 +46,7 @@ fn next_pair(text: &[u32], from: TextAt, near: usize, far: usize, a: u32, b: u32
     let count = buffer::lesser(PART, text.len() - second);
     let first_to = first + count;
     let second_to = second + count;
-    let passed =
-        measure::positions_before(&text[first..first_to], &text[second..second_to], a, b);
+    let passed = measure::positions_before(&text[first..first_to], &text[second..second_to], a, b);
     TextAt(at + passed)
 }
 
@@ -75,8 +73,8 @@ fn next_start(text: &[u32], chain: &[u32], at: TextAt, again: usize, len: usize)
 
 // The longest run of the row that pattern starts, where it is longer than floor, and the first position on the text that
 // has it. A run longer than what was found has the pattern's word at that offset, and the one where the last run that was measured
-// ended, so only the positions where both stand are looked at; and none within a run of one word again and again. Runs are measured
-// at positions of the chain.
+// ended, so positions that lack either are passed over; and so are those within a run of one word again and again. The search ends
+// where too few words are left for a longer run.
 fn row_search(pattern: &[u32], text: &[u32], chain: &[u32], floor: usize) -> Found
     requires { ⌜ (floor ≤ 2048) × (length (now pattern) ≤ 2048) × (length (now text) ≤ 2048) × Current (now pattern) × Current (now text) × Chained (now text) (now chain) ⌝ }
     ensures { λ r. ⌜ Row (now (pattern .entry)) (now (text .entry)) floor r ⌝ }
