@@ -5,10 +5,8 @@ use Prim.Native.Nat.{ℕ, _+_, _-_, _≤_, _<_, min, max}
 use native.Mathlib.Decide.{decLe, decLt, ℕ-discrete}
 use native.Mathlib.Omega.{arith}
 use mathlib.Core.Path.{_≡_, refl, sym, _∙_, subst}
-use mathlib.Core.Bool.{Bool, true, false, not}
+use mathlib.Core.Bool.{false}
 use mathlib.Core.List.{List}
-use borrow.Author.Tests.{eqb-true, eqb-false, not-true, not-false}
-use lib.Dec.{eqb}
 use lib.ListN.{length, take, drop, getD, length-drop}
 use lib.Seq.{getD-drop}
 use Rattle.symbol.specs.Word.{equalCalls}
@@ -18,14 +16,14 @@ use Rattle.symbol.proofs.Retired.{match-equal}
 use Rattle.symbol.proofs.Sequence.{current-at, current-drop}
 use Rattle.tiling.specs.Run.{run, equalRun}
 use Rattle.tiling.proofs.Leading.{leading-within, leading-most}
-use Rattle.tiling.proofs.Run.{run-within, run-match, run-most, zero-left, zero-right}
+use Rattle.tiling.proofs.Run.{run-within, run-match, run-most, zero-right}
 use Rattle.tiling.proofs.Replaced.{run-current}
 use Rattle.tile.specs.declared.TextAt.{TextAt}
 use Rattle.buffer.proofs.Buffer.{tail-is}
 use Rattle.measure.specs.Block.{counted}
 use Rattle.measure.proofs.Longer.{counted-longer, counted-most}
 use Rattle.sweep.specs.Row.{Row, better, passedOver}
-use Rattle.chain.specs.First.{First}
+use Rattle.chain.specs.First.{First, Passing}
 use Rattle.chain.specs.Chain.{Free}
 use Rattle.sweep.specs.declared.Found.{Found}
 use Rattle.plain.specs.Pair.{SideBySide}
@@ -46,12 +44,9 @@ unfree-run ps ts u d = go (ℕ-discrete (getD ts u 0) 0)
     go (yes e) = free-run ps ts u e
     go (no e) = absurd (d e)
 
--- No run begins at such a word, nor after the last one.
+-- No run begins at such a word.
 counted-zero : (best n : ℕ) → n ≡ 0 → 0 ≡ counted best n
 counted-zero best n e = omega (arith, counted-most best n)
-
-pub run-after : (ps ts : List ℕ) (best at : ℕ) → length ts ≤ at → 0 ≡ counted best (equalRun ps (drop at ts))
-run-after ps ts best at h = counted-zero best (equalRun ps (drop at ts)) (omega (arith, leading-within equalCalls ps (drop at ts), length-drop at ts))
 
 pub run-marked : (ps ts : List ℕ) (best at : ℕ) → getD ts at 0 ≡ 0 → 0 ≡ counted best (equalRun ps (drop at ts))
 run-marked ps ts best at e =
@@ -74,18 +69,8 @@ pub start-from : (ts : List ℕ) (at c len skip from next : ℕ) → skip ≡ pa
 start-from ts at c len skip from next e w f = rw (← e, ← w) f
 
 -- The search goes on further to the right.
-pub start-less : (Q : ℕ → Type 0) (ts : List ℕ) (t far r c len next : ℕ) → t + far < length ts → First Q t (length ts - far) r → First (Free ts) (min (r + 1 + passedOver c len) (length ts)) (length ts) next → length ts - next < length ts - t
+pub start-less : (Q : ℕ → Type 0) (ts : List ℕ) (t far r c len next : ℕ) → t + far < length ts → Passing Q t (length ts - far) r → First (Free ts) (min (r + 1 + passedOver c len) (length ts)) (length ts) next → length ts - next < length ts - t
 start-less Q ts t far r c len next h f g = omega (arith, f .least, g .least)
-
-pub start-within : (Q : ℕ → Type 0) (ts : List ℕ) (t far r : ℕ) → First Q t (length ts - far) r → r ≤ length ts
-start-within Q ts t far r f = omega (arith, f .within)
-
-module _ (ws : List ℕ) (i : ℕ) (r : Bool) (e : r ≡ not (eqb (getD ws i 0) 0)) where
-  pub marked-not : r ≡ true → getD ws i 0 ≡ 0 → ⊥
-  marked-not t = eqb-false (getD ws i 0) 0 (not-true _ (sym e ∙ t))
-
-  pub marked-is : r ≡ false → getD ws i 0 ≡ 0
-  marked-is t = eqb-true (getD ws i 0) 0 (not-false _ (sym e ∙ t))
 
 -- What is known of the two parts.
 pub record Parts (ps ts : List ℕ) : Type 0 where
@@ -115,27 +100,26 @@ seen-none ps ts floor t a h p l c d f =
       first = λ l. absurd (omega arith);
     }
 
-module _ (ps ts : List ℕ) (floor t : ℕ) (f : Found) (near again r len : ℕ) (a : TextAt) (s : Seen ps ts floor t f) (order : near ≤ f .len) (h : f .len < length ps) (k : t + f .len < length ts) (c : First (SideBySide ts near (f .len) (getD ps near 0) (getD ps (f .len) 0)) t (length ts - f .len) r) (at : a .0 ≡ r) (e : len ≡ counted (f .len) (equalRun ps (drop r ts))) (ea : again ≡ equalRun ps (drop 1 ps)) (next : ℕ) (en : First (Free ts) (min (r + 1 + passedOver again len) (length ts)) (length ts) next) where
+-- ---- the end
+-- No run is longer: the pattern has no more words, or too few of the text's are left from t on.
+seen-end : (ps ts : List ℕ) (floor t : ℕ) (f : Found) → Seen ps ts floor t f → ((u : ℕ) → t ≤ u → run ps (drop u ts) ≤ f .len) → Row ps ts floor f
+seen-end ps ts floor t f s later = record { least = s .least; most = λ u. go u (decLt u t); long = s .long; first = s .first }
+  where
+    go : (u : ℕ) → Dec (u < t) → run ps (drop u ts) ≤ f .len
+    go u (yes h) = s .most u h
+    go u (no h) = later u (omega (arith, h))
+
+pub seen-pattern : (ps ts : List ℕ) (floor t : ℕ) (f : Found) → Seen ps ts floor t f → length ps ≤ f .len → Row ps ts floor f
+seen-pattern ps ts floor t f s h = seen-end ps ts floor t f s (λ u l. omega (arith, run-within ps (drop u ts)))
+
+pub seen-text : (ps ts : List ℕ) (floor t : ℕ) (f : Found) → Seen ps ts floor t f → length ts ≤ t + f .len → Row ps ts floor f
+seen-text ps ts floor t f s h = seen-end ps ts floor t f s (λ u l. omega (arith, run-within ps (drop u ts), length-drop u ts))
+
+-- ---- one more run
+-- It is measured at r, before which nothing longer begins.
+module _ (ps ts : List ℕ) (floor r : ℕ) (f : Found) (again len : ℕ) (a : TextAt) (s : Seen ps ts floor r f) (at : a .0 ≡ r) (e : len ≡ counted (f .len) (equalRun ps (drop r ts))) (ea : again ≡ equalRun ps (drop 1 ps)) (next : ℕ) (en : First (Free ts) (min (r + 1 + passedOver again len) (length ts)) (length ts) next) where
   abbrev skip : ℕ
   skip = passedOver again len
-
-  -- A run longer than what was found has both words.
-  both : (u : ℕ) → f .len < run ps (drop u ts) → SideBySide ts near (f .len) (getD ps near 0) (getD ps (f .len) 0) u
-  both u l = record { here = word near (omega arith); beyond = word (f .len) l }
-    where
-      word : (i : ℕ) → i < run ps (drop u ts) → getD ts (u + i) 0 ≡ getD ps i 0
-      word i m =
-          let same = match-equal (getD ps i 0) (getD (drop u ts) i 0) (run-match ps (drop u ts) i m) in
-          sym (getD-drop u ts i 0)
-          ∙ (sym (current-at (drop u ts) (current-drop u ts (s .parts .current-text)) i) ∙ (sym same ∙ current-at ps (s .parts .current-pattern) i))
-
-  before : (u : ℕ) → u < r → run ps (drop u ts) ≤ f .len
-  before u l = go (decLt u t) (decLe (run ps (drop u ts)) (f .len))
-    where
-      go : Dec (u < t) → Dec (run ps (drop u ts) ≤ f .len) → run ps (drop u ts) ≤ f .len
-      go (yes m) d = s .most u m
-      go (no m) (yes d) = d
-      go (no m) (no d) = absurd (c .none u (omega (arith, m)) l (both u (omega (arith, d))))
 
   counted-run : len ≡ counted (f .len) (run ps (drop r ts))
   counted-run = rw (run-current ps (drop r ts) (s .parts .current-pattern) (current-drop r ts (s .parts .current-text))) at e
@@ -152,7 +136,7 @@ module _ (ps ts : List ℕ) (floor t : ℕ) (f : Found) (near again r len : ℕ)
     where
       go : Dec (u ≡ r) → Dec (u < r) → Dec (u < r + 1 + skip) → run ps (drop u ts) ≤ n
       go (yes q) c k = rw q m
-      go (no d) (yes c) k = omega (arith, before u c)
+      go (no d) (yes c) k = omega (arith, s .most u c)
       go (no d) (no c) (yes k) = omega (arith, skipped u (omega (arith, c, d)) k)
       go (no d) (no c) (no k) = omega (arith, unfree-run ps ts u (en .none u (omega (arith, k)) b))
 
@@ -169,7 +153,7 @@ module _ (ps ts : List ℕ) (floor t : ℕ) (f : Found) (near again r len : ℕ)
             least = omega (arith, s .least);
             most = reached len (omega arith) (omega (arith, here)) (omega arith);
             long = λ m. rw at (omega (arith, here));
-            first = λ m u b. omega (arith, before u (omega (arith, at)));
+            first = λ m u b. omega (arith, s .most u (omega (arith, at)));
           })
       go (no l) =
           subst (λ g. Seen ps ts floor next g) (better-old f a len (omega (arith, l)))
@@ -183,23 +167,40 @@ module _ (ps ts : List ℕ) (floor t : ℕ) (f : Found) (near again r len : ℕ)
             first = s .first;
           })
 
-  pub seen-more : (g : Found) → g ≡ better f a len → Seen ps ts floor next g
-  seen-more g q = subst (λ x. Seen ps ts floor next x) (sym q) seen-better
+-- ---- one turn
+module _ (ps ts : List ℕ) (floor t : ℕ) (f : Found) (near r : ℕ) (s : Seen ps ts floor t f) (order : near ≤ f .len) (c : Passing (SideBySide ts near (f .len) (getD ps near 0) (getD ps (f .len) 0)) t (length ts - f .len) r) where
+  -- A run longer than what was found has both words.
+  both : (u : ℕ) → f .len < run ps (drop u ts) → SideBySide ts near (f .len) (getD ps near 0) (getD ps (f .len) 0) u
+  both u l = record { here = word near (omega arith); beyond = word (f .len) l }
+    where
+      word : (i : ℕ) → i < run ps (drop u ts) → getD ts (u + i) 0 ≡ getD ps i 0
+      word i m =
+          let same = match-equal (getD ps i 0) (getD (drop u ts) i 0) (run-match ps (drop u ts) i m) in
+          sym (getD-drop u ts i 0)
+          ∙ (sym (current-at (drop u ts) (current-drop u ts (s .parts .current-text)) i) ∙ (sym same ∙ current-at ps (s .parts .current-pattern) i))
 
--- At the end no run is longer: the pattern has no more words, or the text has none from t on.
-seen-end : (ps ts : List ℕ) (floor t : ℕ) (f : Found) → Seen ps ts floor t f → ((u : ℕ) → t ≤ u → run ps (drop u ts) ≤ f .len) → Row ps ts floor f
-seen-end ps ts floor t f s later = record { least = s .least; most = λ u. go u (decLt u t); long = s .long; first = s .first }
-  where
-    go : (u : ℕ) → Dec (u < t) → run ps (drop u ts) ≤ f .len
-    go u (yes h) = s .most u h
-    go u (no h) = later u (omega (arith, h))
+  -- So nothing longer begins before r.
+  seen-past : Seen ps ts floor r f
+  seen-past =
+      record {
+        parts = s .parts;
+        within = omega (arith, c .within);
+        small = s .small;
+        least = s .least;
+        most = λ u l. go u l (decLt u t) (decLe (run ps (drop u ts)) (f .len));
+        long = s .long;
+        first = s .first;
+      }
+    where
+      go : (u : ℕ) → u < r → Dec (u < t) → Dec (run ps (drop u ts) ≤ f .len) → run ps (drop u ts) ≤ f .len
+      go u l (yes m) d = s .most u m
+      go u l (no m) (yes d) = d
+      go u l (no m) (no d) = absurd (c .none u (omega (arith, m)) l (both u (omega (arith, d))))
 
-pub seen-pattern : (ps ts : List ℕ) (floor t : ℕ) (f : Found) → Seen ps ts floor t f → length ps ≤ f .len → Row ps ts floor f
-seen-pattern ps ts floor t f s h = seen-end ps ts floor t f s (λ u l. omega (arith, run-within ps (drop u ts)))
+  pub seen-more : (again len : ℕ) (a : TextAt) → a .0 ≡ r → len ≡ counted (f .len) (equalRun ps (drop r ts)) → again ≡ equalRun ps (drop 1 ps) → (next : ℕ) → First (Free ts) (min (r + 1 + passedOver again len) (length ts)) (length ts) next → (g : Found) → g ≡ better f a len → Seen ps ts floor next g
+  seen-more again len a at e ea next en g q =
+      subst (λ x. Seen ps ts floor next x) (sym q) (seen-better ps ts floor r f again len a seen-past at e ea next en)
 
-pub seen-text : (ps ts : List ℕ) (floor t : ℕ) (f : Found) → Seen ps ts floor t f → length ts ≤ t + f .len → Row ps ts floor f
-seen-text ps ts floor t f s h = seen-end ps ts floor t f s (λ u l. omega (arith, run-within ps (drop u ts), length-drop u ts))
-
--- The pattern's word at that offset is marked: no run goes on there.
-pub seen-marked : (ps ts : List ℕ) (floor t : ℕ) (f : Found) → Seen ps ts floor t f → getD ps (f .len) 0 ≡ 0 → Row ps ts floor f
-seen-marked ps ts floor t f s h = seen-end ps ts floor t f s (λ u l. run-most ps (drop u ts) (f .len) (rw h (zero-left (getD (drop u ts) (f .len) 0))))
+  -- Where too few words are left from r on, the search ends.
+  pub seen-last : length ts ≤ r + f .len → Row ps ts floor f
+  seen-last h = seen-text ps ts floor r f seen-past h

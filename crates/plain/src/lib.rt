@@ -9,17 +9,16 @@ use tile::PatternAt;
 use tile::TextAt;
 use tiling::Compared;
 ghost use mathlib.Core.Path.{_≡_};
-ghost use mathlib.Core.Bool.{false, not};
+ghost use mathlib.Core.Bool.{false};
 ghost use Prim.Native.Nat.{_+_, _-_, _≤_, _<_, min};
-ghost use lib.Dec.{eqb};
-ghost use lib.ListN.{length, drop, getD};
+ghost use lib.ListN.{length, drop};
 ghost use Rattle.symbol.specs.Sequence.{Current};
 ghost use Rattle.tiling.specs.Run.{equalRun};
 ghost use Rattle.tiling.specs.Comparing.{plainRefusal, Comparable};
 ghost use Rattle.measure.specs.Block.{counted};
 ghost use Rattle.bounds.specs.Workspace.{Space, state, bound};
 ghost use Rattle.sweep.specs.Row.{Row, passedOver};
-ghost use Rattle.chain.specs.First.{First};
+ghost use Rattle.chain.specs.First.{First, Passing};
 ghost use Rattle.chain.specs.Chain.{Free, Chained};
 ghost use Rattle.bounds.specs.Blocks.{Covering, Falling};
 ghost use Rattle.sweep.specs.Goal.{atGoal};
@@ -27,67 +26,16 @@ ghost use Rattle.sweep.specs.Progress.{Fits, Searched, UpperFrom, RowBound, Nex
 ghost use Rattle.ends.specs.Result.{Room, Ran};
 ghost use Rattle.plain.specs.Promise.{Plain};
 ghost use Rattle.plain.specs.Bounds.{Capped, goesOn};
-ghost use Rattle.plain.specs.Pair.{SideBySide, Looked};
+ghost use Rattle.plain.specs.Pair.{SideBySide};
 
-// A position of the text, and where the part ends in which the second of two words was looked for: where it was found, it stands in that part.
-struct Part {
-    at: usize,
-    to: usize,
-}
+// How many positions of the text are looked at as a whole, before the chain is asked where to go on.
+const PART: usize = 1024;
 
-// Where the part of the text ends that is looked at as a whole from a position on: a few hundred words on, where the chain can be entered.
-fn part_end(from: usize, end: usize) -> usize
-    requires { ⌜ (from ≤ end) × (end ≤ 2048) ⌝ }
-    ensures { λ r. ⌜ (min (from + 1) end ≤ r) × (r ≤ end) ⌝ }
-{
-    buffer::lesser(from / 32 * 32 + 512, end)
-}
-
-// Looks for the second of two words in one part of the text.
-fn look(text: &[u32], second: usize, near: usize, far: usize, a: u32, b: u32) -> Part
-    requires { ⌜ (near ≤ far) × (far ≤ second) × (second ≤ length (now text)) × (length (now text) ≤ 2048) ⌝ }
-    ensures { λ r. ⌜ Looked (now (text .entry)) near far a b second (r .at) (r .to) ⌝ }
-{
-    let to = part_end(second, text.len());
-    let at = second - far;
-    let first = at + near;
-    let passed = measure::positions_before(&text[first..], &text[second..to], a, b);
-    Part {
-        at: at + passed,
-        to,
-    }
-}
-
-// The same from the first free word on: those before it are 0, and so none of them is the second word.
-fn look_on(
-    text: &[u32],
-    chain: &[u32],
-    from: usize,
-    near: usize,
-    far: usize,
-    a: u32,
-    b: u32,
-) -> Part
-    requires { ⌜ Chained (now text) (now chain) × (b ≡ 0 → ⊥) × (near ≤ far) × (far ≤ from) × (from < length (now text)) ⌝ }
-    ensures { λ r. ⌜ Looked (now (text .entry)) near far a b from (r .at) (r .to) ⌝ }
-{
-    let second = chain::free_from(text, chain, from);
-    look(text, second, near, far, a, b)
-}
-
-// The first position of the text from `from` on with a so many words further on and b further still; else the end of those that have
-// a word so far on. With few codes it is often `from` itself.
-fn next_pair(
-    text: &[u32],
-    chain: &[u32],
-    from: TextAt,
-    near: usize,
-    far: usize,
-    a: u32,
-    b: u32,
-) -> TextAt
-    requires { ⌜ Chained (now text) (now chain) × (b ≡ 0 → ⊥) × (near ≤ far) × (from .0 + far < length (now text)) ⌝ }
-    ensures { λ r. ⌜ First (SideBySide (now (text .entry)) near far a b) (from .0) (length (now (text .entry)) - far) (r .0) ⌝ }
+// A position of the text from `from` on before which none has a so many words further on and b further still: the first that has them, or
+// the end of a part of the text. With few codes it is often `from` itself.
+fn next_pair(text: &[u32], from: TextAt, near: usize, far: usize, a: u32, b: u32) -> TextAt
+    requires { ⌜ (near ≤ far) × (from .0 + far < length (now text)) × (length (now text) ≤ 2048) ⌝ }
+    ensures { λ r. ⌜ Passing (SideBySide (now (text .entry)) near far a b) (from .0) (length (now (text .entry)) - far) (r .0) ⌝ }
 {
     let at = from.0;
     let first = at + near;
@@ -95,29 +43,19 @@ fn next_pair(
     if (text[first] == a) & (text[second] == b) {
         return from;
     }
-    let mut part = look(text, second, near, far, a, b);
-    while part.at + far == part.to && part.to < text.len() {
-        part = look_on(text, chain, part.to, near, far, a, b);
-    }
-    TextAt(part.at)
-}
-
-// Whether a word is not marked.
-fn is_free(words: &[u32], at: usize) -> bool
-    requires { ⌜ at < length (now words) ⌝ }
-    ensures { λ r. ⌜ r ≡ not (eqb (getD (now (words .entry)) at 0) 0) ⌝ }
-{
-    words[at] != 0
+    let count = buffer::lesser(PART, text.len() - second);
+    let first_to = first + count;
+    let second_to = second + count;
+    let passed = measure::positions_before(&text[first..first_to], &text[second..second_to], a, b);
+    TextAt(at + passed)
 }
 
 // The run at a position of the text, of which one longer than best is looked for. None begins at a word that is not free.
 fn run_at(pattern: &[u32], text: &[u32], at: TextAt, best: usize) -> usize
+    requires { ⌜ at .0 < length (now text) ⌝ }
     ensures { λ r. ⌜ r ≡ counted best (equalRun (now (pattern .entry)) (drop (at .0) (now (text .entry)))) ⌝ }
 {
     let from = at.0;
-    if text.len() <= from {
-        return 0;
-    }
     if text[from] == 0 {
         return 0;
     }
@@ -135,8 +73,8 @@ fn next_start(text: &[u32], chain: &[u32], at: TextAt, again: usize, len: usize)
 
 // The longest run of the row that pattern starts, where it is longer than floor, and the first position on the text that
 // has it. A run longer than what was found has the pattern's word at that offset, and the one where the last run that was measured
-// ended, so only the positions where both stand are looked at; and none within a run of one word again and again. Runs are measured
-// at positions of the chain.
+// ended, so positions that lack either are passed over; and so are those within a run of one word again and again. The search ends
+// where too few words are left for a longer run.
 fn row_search(pattern: &[u32], text: &[u32], chain: &[u32], floor: usize) -> Found
     requires { ⌜ (floor ≤ 2048) × (length (now pattern) ≤ 2048) × (length (now text) ≤ 2048) × Current (now pattern) × Current (now text) × Chained (now text) (now chain) ⌝ }
     ensures { λ r. ⌜ Row (now (pattern .entry)) (now (text .entry)) floor r ⌝ }
@@ -148,17 +86,12 @@ fn row_search(pattern: &[u32], text: &[u32], chain: &[u32], floor: usize) -> Fou
     let again = sweep::repeats(pattern);
     let mut ended = 0;
     let mut t = chain::free_from(text, chain, 0);
-    while found.len < pattern.len() && t + found.len < text.len() && is_free(pattern, found.len) {
+    while found.len < pattern.len() && t + found.len < text.len() {
         let far = found.len;
-        let at = next_pair(
-            text,
-            chain,
-            TextAt(t),
-            ended,
-            far,
-            pattern[ended],
-            pattern[far],
-        );
+        let at = next_pair(text, TextAt(t), ended, far, pattern[ended], pattern[far]);
+        if text.len() <= at.0 + far {
+            return found;
+        }
         let len = run_at(pattern, text, at, far);
         ended = buffer::lesser(len, far);
         found = sweep::keep(found, at, len);

@@ -1,71 +1,82 @@
--- `plain::next_pair` meets its contract: the words stand at once, or at the head of each turn no position from `from` up to `at` has both words, and
--- `at` has them where its second word stands in the part that was looked at.
+-- `plain::next_pair` meets its contract: the words stand at once, or the positions of the part that lack either word are passed.
 -- Assumes nothing.
-use Prim.Native.Nat.{_-_}
-use borrow.Author.Tests.{ltb-true, ltb-false}
-use lib.ListN.{length}
-use Rattle.plain.proofs.Next.{next-here, Nearing, nearing-first, nearing-more, nearing-found, nearing-end, looked-less}
+use Prim.Native.Nat.{_≤_}
+use native.Mathlib.Omega.{arith}
+use Rattle.plain.proofs.Next.{passed-few, pair-passed}
 use borrow.Author.Needs.{needs}
 use Rattle.plain.proofs.next_pair.Statement.{statement}
 use Rattle.plain.proofs.next_pair.Tie as tie
 
-abbrev Inv-loop : tie.InvT-loop
-Inv-loop text chain near far a b at first second part₀ part = Nearing text near far a b at (part .at) (part .to)
-
-abbrev μ-loop : tie.MeasureT-loop
-μ-loop text chain near far a b at first second part₀ part = length text - part .to
-
-add-first : tie.Need-add-first Inv-loop μ-loop
+add-first : tie.Need-add-first
 add-first c = search needs
 
-add-second : tie.Need-add-second Inv-loop μ-loop
+add-second : tie.Need-add-second
 add-second c = search needs
 
-mul-if1 : tie.Need-mul-if1 Inv-loop μ-loop
+mul-if1 : tie.Need-mul-if1
 mul-if1 c = search needs
 
-shared-slice-read-if1 : tie.Need-shared-slice-read-if1 Inv-loop μ-loop
+shared-slice-read-if1 : tie.Need-shared-slice-read-if1
 shared-slice-read-if1 c = search needs
 
-mul-if1-2 : tie.Need-mul-if1-2 Inv-loop μ-loop
+mul-if1-2 : tie.Need-mul-if1-2
 mul-if1-2 c = search needs
 
-shared-slice-read-if1-2 : tie.Need-shared-slice-read-if1-2 Inv-loop μ-loop
+shared-slice-read-if1-2 : tie.Need-shared-slice-read-if1-2
 shared-slice-read-if1-2 c = search needs
 
-returns : tie.Need-returns Inv-loop μ-loop
-returns c = search next-here
+returns : tie.Need-returns
+returns c = search needs
 
-look-requires : tie.Need-look-requires Inv-loop μ-loop
-look-requires c κs = search needs
+sub-lesser : tie.Need-sub-lesser
+sub-lesser c = search needs
 
-loop-holds : tie.Need-loop-holds Inv-loop μ-loop
-loop-holds c = search nearing-first
+lesser-requires : tie.Need-lesser-requires
+lesser-requires c κs = search needs
 
-add-if2 : tie.Need-add-if2 Inv-loop μ-loop
-add-if2 c = search needs
+add-first-to : tie.Need-add-first-to
+add-first-to c = search needs
 
-look-on-requires : tie.Need-look-on-requires Inv-loop μ-loop
-look-on-requires c κs = (search needs, search needs, search needs, search needs, search ltb-true)
+add-second-to : tie.Need-add-second-to
+add-second-to c = search needs
 
-loop-less : tie.Need-loop-less Inv-loop μ-loop
-loop-less c = search (looked-less, ltb-true)
+mul-positions-before : tie.Need-mul-positions-before
+mul-positions-before c = search needs
 
-loop-again : tie.Need-loop-again Inv-loop μ-loop
-loop-again c = search nearing-more
+sub-positions-before : tie.Need-sub-positions-before
+sub-positions-before c = search needs
 
-returns-2 : tie.Need-returns-2 Inv-loop μ-loop
-returns-2 c = search (nearing-end, ltb-false)
+part-positions-before-start : tie.Need-part-positions-before-start
+part-positions-before-start c = search needs
 
-returns-3 : tie.Need-returns-3 Inv-loop μ-loop
-returns-3 c = search nearing-found
+part-positions-before-end : tie.Need-part-positions-before-end
+part-positions-before-end c = search needs
+
+mul-positions-before-2 : tie.Need-mul-positions-before-2
+mul-positions-before-2 c = search needs
+
+sub-positions-before-2 : tie.Need-sub-positions-before-2
+sub-positions-before-2 c = search needs
+
+part-positions-before-start-2 : tie.Need-part-positions-before-start-2
+part-positions-before-start-2 c = search needs
+
+part-positions-before-end-2 : tie.Need-part-positions-before-end-2
+part-positions-before-end-2 c = search needs
+
+positions-before-requires : tie.Need-positions-before-requires
+positions-before-requires c κs = search needs
+
+add-t14 : tie.Need-add-t14
+add-t14 c = let few : c .positions-before .result ≤ c .before .before .before .lesser .result = search passed-few in record { fits = omega (arith, few) }
+
+returns-2 : tie.Need-returns-2
+returns-2 c = search pair-passed
 
 pub next-pair-spec : {M : Type 1} → statement M
 next-pair-spec =
     tie.close
     (tie.spec
-    Inv-loop
-    μ-loop
     add-first
     add-second
     mul-if1
@@ -73,11 +84,18 @@ next-pair-spec =
     mul-if1-2
     shared-slice-read-if1-2
     returns
-    look-requires
-    loop-holds
-    add-if2
-    look-on-requires
-    loop-less
-    loop-again
-    returns-2
-    returns-3)
+    sub-lesser
+    lesser-requires
+    add-first-to
+    add-second-to
+    mul-positions-before
+    sub-positions-before
+    part-positions-before-start
+    part-positions-before-end
+    mul-positions-before-2
+    sub-positions-before-2
+    part-positions-before-start-2
+    part-positions-before-end-2
+    positions-before-requires
+    add-t14
+    returns-2)

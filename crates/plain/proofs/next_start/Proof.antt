@@ -1,6 +1,6 @@
-use native.Mathlib.Omega.{arith}
 -- `plain::next_start` meets its contract: the chain is entered after the positions that the run tells of, or at the end of the text.
 -- Assumes nothing.
+use native.Mathlib.Omega.{arith}
 use Rattle.plain.proofs.Scan.{passed-small, start-from}
 use borrow.Author.Needs.{needs}
 use Rattle.plain.proofs.next_start.Statement.{statement}

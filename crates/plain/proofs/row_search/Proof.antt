@@ -1,11 +1,12 @@
--- `plain::row_search` meets its contract: at the head of each turn what was found is the longest of the runs before t, or the floor.
+-- `plain::row_search` meets its contract: at the head of each turn what was found is the longest of the runs before t, or the floor. No longer run
+-- begins at a position that is passed over, nor where too few words are left.
 -- Assumes nothing.
 use Prim.Native.Nat.{_-_, _≤_}
 use borrow.Author.Tests.{ltb-true, ltb-false}
 use lib.ListN.{length}
 use Rattle.chain.specs.Chain.{Chained}
 use Rattle.sweep.proofs.Row.{better-least}
-use Rattle.plain.proofs.Scan.{Seen, seen-none, seen-more, start-less, start-within, counted-small, marked-not, marked-is, seen-marked, seen-pattern, seen-text}
+use Rattle.plain.proofs.Scan.{Seen, seen-none, seen-more, start-less, counted-small, seen-last, seen-pattern, seen-text}
 use borrow.Author.Needs.{needs}
 use Rattle.plain.proofs.row_search.Statement.{statement}
 use Rattle.plain.proofs.row_search.Tie as tie
@@ -28,9 +29,6 @@ loop-holds c = (search seen-none, search needs, search needs)
 add-if2 : tie.Need-add-if2 Inv-loop μ-loop
 add-if2 c = search needs
 
-is-free-requires : tie.Need-is-free-requires Inv-loop μ-loop
-is-free-requires c κs = search needs
-
 mul-next-pair : tie.Need-mul-next-pair Inv-loop μ-loop
 mul-next-pair c = search needs
 
@@ -44,7 +42,13 @@ shared-slice-read-next-pair-2 : tie.Need-shared-slice-read-next-pair-2 Inv-loop 
 shared-slice-read-next-pair-2 c = search needs
 
 next-pair-requires : tie.Need-next-pair-requires Inv-loop μ-loop
-next-pair-requires c κs = (search needs, search marked-not, search needs, search ltb-true)
+next-pair-requires c κs = (search needs, search ltb-true, search needs)
+
+add-if3 : tie.Need-add-if3 Inv-loop μ-loop
+add-if3 c = search needs
+
+returns : tie.Need-returns Inv-loop μ-loop
+returns c = search (seen-last, c .before .before .next-pair .ensures)
 
 run-at-requires : tie.Need-run-at-requires Inv-loop μ-loop
 run-at-requires c κs = search needs
@@ -56,16 +60,13 @@ keep-requires : tie.Need-keep-requires Inv-loop μ-loop
 keep-requires c κs = search needs
 
 next-start-requires : tie.Need-next-start-requires Inv-loop μ-loop
-next-start-requires c κs = (search needs, search start-within, search counted-small)
+next-start-requires c κs = (search needs, search needs, search counted-small)
 
 loop-less : tie.Need-loop-less Inv-loop μ-loop
 loop-less c = search (start-less, ltb-true)
 
 loop-again : tie.Need-loop-again Inv-loop μ-loop
-loop-again c = (search (seen-more, ltb-true), search better-least, search needs)
-
-returns : tie.Need-returns Inv-loop μ-loop
-returns c = search (seen-marked, marked-is)
+loop-again c = (search seen-more, search better-least, search needs)
 
 returns-2 : tie.Need-returns-2 Inv-loop μ-loop
 returns-2 c = search (seen-text, ltb-false)
@@ -83,18 +84,18 @@ row-search-spec =
     free-from-requires
     loop-holds
     add-if2
-    is-free-requires
     mul-next-pair
     shared-slice-read-next-pair
     mul-next-pair-2
     shared-slice-read-next-pair-2
     next-pair-requires
+    add-if3
+    returns
     run-at-requires
     lesser-requires
     keep-requires
     next-start-requires
     loop-less
     loop-again
-    returns
     returns-2
     returns-3)
