@@ -14,8 +14,8 @@ visit-requires c κs = search needs
 settled-rows-requires : tie.Need-settled-rows-requires
 settled-rows-requires c κs = search needs
 
-refresh-requires : tie.Need-refresh-requires
-refresh-requires c κs = search needs
+renew-requires : tie.Need-renew-requires
+renew-requires c κs = search needs
 
 same-length : tie.Need-same-length
 same-length c = search needs
@@ -33,7 +33,7 @@ step-spec =
     bound-of-requires
     visit-requires
     settled-rows-requires
-    refresh-requires
+    renew-requires
     same-length
     same-length-2
     returns)
