@@ -23,7 +23,7 @@ use Rattle.index.proofs.First.{next-none, next-skip, some-none, some-sk
 use Rattle.index.proofs.Free.{Busy, busy-by, busy-text, busy-listed, not-free}
 use Rattle.index.proofs.Linking.{linked-same}
 use Rattle.index.proofs.Parts.{part-state, part-later, part-space, text-hashes}
-use Rattle.index.proofs.Stretches.{Walk, walk-first, walk-next, busy-between, end-marked}
+use Rattle.index.proofs.Stretches.{Walk, walk-first, walk-next, busy-between, end-marked, free-within}
 
 -- ---- windows with a marked word are passed over
 module _ (x : Pass) (ws hs fs : List ℕ) (a b : ℕ) (low : a ≤ b) (busy : (q : ℕ) → a ≤ q → q < b → Busy (x .s) (state (x .job) ws .text) q) where
@@ -128,28 +128,11 @@ module _ (x : Pass) (ws hs fs : List ℕ) (from to : ℕ) (ranges : Ranges x) (s
       hash-before u k free (no l) (yes d) = absurd (not-free s (state j ws .text) u (reaching u (omega (arith, l)) d) free)
       hash-before u k free (no l) (no d) = kept-text u (omega (arith, d)) ∙ r .on-text u (omega (arith, d)) free
 
-      -- A free window begins within its sequence.
       row-within : (p : ℕ) → AllFree s (state j ws .pattern) p → p < j .n
-      row-within p free = go (decLt p (j .n))
-        where
-          go : Dec (p < j .n) → p < j .n
-          go (yes l) = l
-          go (no l) =
-              absurd
-              (not-free s (state j ws .pattern) p
-              (busy-by s (state j ws .pattern) p p (omega arith) (omega (arith, ranges .one)) (end-marked (state j ws .pattern) p (omega (arith, l, pattern-length j ws (r .space)))))
-              free)
+      row-within p free = omega (arith, free-within s (state j ws .pattern) p (ranges .one) free, pattern-length j ws (r .space))
 
       text-within : (u : ℕ) → AllFree s (state j ws .text) u → u < j .m
-      text-within u free = go (decLt u (j .m))
-        where
-          go : Dec (u < j .m) → u < j .m
-          go (yes l) = l
-          go (no l) =
-              absurd
-              (not-free s (state j ws .text) u
-              (busy-by s (state j ws .text) u u (omega arith) (omega (arith, ranges .one)) (end-marked (state j ws .text) u (omega (arith, l, text-length j ws (r .space)))))
-              free)
+      text-within u free = omega (arith, free-within s (state j ws .text) u (ranges .one) free, text-length j ws (r .space))
 
       pub texts-entered : TextsFrom x ws₂ hs' fs' from
       texts-entered =
