@@ -2,7 +2,7 @@
 SHELL := /bin/bash
 .SHELLFLAGS := -euo pipefail -c
 .ONESHELL:
-.PHONY: pair tool library example test bench climb fuzz check clean
+.PHONY: pair tool library example test bench beside climb fuzz check clean
 
 # The programs that each target needs. What is missing is named before anything is begun.
 needs-pair := rt
@@ -11,6 +11,7 @@ needs-example := rt cc
 needs-tool := rt cargo cc
 needs-test := rt cargo cc objdump python3 script
 needs-bench := rt cargo cc valgrind
+needs-beside := rt cargo cc
 needs-climb := rt cargo cc
 needs-fuzz := rt clang
 needs-check := rt
@@ -82,6 +83,17 @@ test:
 # not kept.
 bench: tool
 	@cargo run --quiet --release --bin benchmark
+
+# Times both engines beside those of an earlier build, in one run: EARLIER is the folder that has its libsigxume.a, such as the
+# target/library of another checkout; fails where an answer differs.
+beside: library
+	@if [ ! -f "$(EARLIER)/libsigxume.a" ]; then
+		echo "make beside needs EARLIER, a folder that has a libsigxume.a." >&2
+		exit 2
+	fi
+	cargo build --quiet --release --bin benchmark
+	SIGXUME_LIBRARY="$(abspath $(EARLIER))" cargo build --quiet --release --bin benchmark --target-dir target/beside
+	target/cargo/release/benchmark beside target/beside/release/benchmark
 
 # Searches for inputs on which the engines are slow, for CLIMB_SECONDS, and prints the slowest as text from which they can be made
 # again; fails where a tiling differs from that of the port of Wise's program.

@@ -1,5 +1,6 @@
 //! What the tables of the benchmark share: the columns, the comparisons, the promises, Markdown.
 
+pub mod beside;
 pub mod climb;
 pub mod counting;
 pub mod cover;

@@ -90,6 +90,13 @@ pub fn time(job: &mut Job, columns: &[&Column], least: Least) -> Vec<f64> {
     times.into_iter().map(Times::median).collect()
 }
 
+/// The median time of a comparison in one turn, in microseconds.
+pub fn turn(job: &mut Job, column: &Column) -> f64 {
+    let mut times = Times::new();
+    times.add_turn(job, column);
+    times.median()
+}
+
 /// A time in microseconds with four digits, or all before the point.
 pub fn shown(time: f64) -> String {
     match time {

@@ -220,7 +220,7 @@ pub fn ordinary() -> Vec<Job> {
 }
 
 /// The pairs of the plain engine's table.
-fn tilings() -> Vec<Job> {
+pub(super) fn tilings() -> Vec<Job> {
     let mut all = jobs();
     let longest = ["wc1.5 wc2.5", "wc3.5 wc4.5"];
     all.extend(paper(|row| longest.contains(&&*row.name)));

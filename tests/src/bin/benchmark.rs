@@ -3,11 +3,12 @@
 //! instructions on the strings of Wise's paper. First all of them must answer alike, word for word; then the tables are printed,
 //! and what was promised of them. The exit status is 1 where an answer differs or a promise is not kept.
 //! Arguments are names of tables: only those are then made. `climb SECONDS [SEED]` searches for slow inputs
-//! instead.
+//! instead; `beside PROGRAM` times this build beside an earlier one, with which that program is linked.
 
 use sigxume_tests::benchmark::{
-    climb, counting, cover, matrix, merging, peers, slow, threshold, timing, Promises,
+    beside, climb, counting, cover, matrix, merging, peers, slow, threshold, timing, Promises,
 };
+use std::path::Path;
 use std::process::ExitCode;
 
 /// A table's name; what must hold before it is made; and what prints it.
@@ -76,6 +77,10 @@ fn main() -> ExitCode {
             Ok(true)
         }
         [climb, numbers @ ..] if climb == climb::CLIMB => search(numbers),
+        [serve] if serve == beside::SERVE => beside::serve(),
+        [beside, earlier] if beside == beside::BESIDE => {
+            beside::compare(Path::new(earlier)).map_err(|error| error.to_string())
+        }
         names => measure(names),
     };
     match done {
