@@ -10,6 +10,7 @@ use std::hash::{Hash, Hasher};
 use std::io::{self, BufRead, BufReader, Write};
 use std::path::Path;
 use std::process::{Child, ChildStdin, ChildStdout, Command, Stdio};
+use std::time::Duration;
 
 /// The argument by which the program is made to time itself beside another.
 pub const BESIDE: &str = "beside";
@@ -17,8 +18,10 @@ pub const BESIDE: &str = "beside";
 /// The argument by which it is made to wait for requests.
 pub const SERVE: &str = "serve";
 
-/// How many turns each program has in a row.
-const TURNS: usize = 9;
+/// How many turns each program has in a row, and how long one is. Short turns, and many, so that a machine whose speed changes from
+/// second to second has the same speed in most of the turns that are divided by one another.
+const TURNS: usize = 31;
+const TURN: Duration = Duration::from_millis(15);
 
 /// A ratio above which a row is named once more at the end.
 const NOTEWORTHY: f64 = 1.1;
@@ -87,7 +90,7 @@ pub fn serve() -> Result<bool, String> {
         };
         match wanted {
             "answers" => println!("{}", row.answers()),
-            _ => println!("{}", turn(&mut row.job, row.column)),
+            _ => println!("{}", turn(&mut row.job, row.column, TURN)),
         }
     }
     Ok(true)
@@ -138,9 +141,9 @@ fn median(mut numbers: Vec<f64>) -> f64 {
     numbers[numbers.len() / 2]
 }
 
-/// Times both programs on every row and prints the ratios; whether all answers agree. The ratio of a row is the median of those of its
-/// turns, of which two that are divided by one another follow one another.
-pub fn compare(earlier: &Path) -> Result<bool, Box<dyn Error>> {
+/// Times both programs on every row, or on those whose names have one of these words, and prints the ratios; whether all answers agree.
+/// The ratio of a row is the median of those of its turns, of which two that are divided by one another follow one another.
+pub fn compare(earlier: &Path, words: &[String]) -> Result<bool, Box<dyn Error>> {
     let mut servers = [
         Server::start(&std::env::current_exe()?)?,
         Server::start(earlier)?,
@@ -151,6 +154,9 @@ pub fn compare(earlier: &Path) -> Result<bool, Box<dyn Error>> {
     head(&["Row", "this build", "earlier", "this / earlier"].map(String::from));
     for (at, timed) in rows().iter().enumerate() {
         let label = timed.label();
+        if !words.is_empty() && !words.iter().any(|word| label.contains(word)) {
+            continue;
+        }
         let mut answers = Vec::new();
         for server in &mut servers {
             answers.push(server.ask(&format!("answers {at}"))?);

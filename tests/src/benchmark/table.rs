@@ -35,9 +35,9 @@ impl Times {
         long || self.spent >= MOST_TIME
     }
 
-    fn add_turn(&mut self, job: &mut Job, column: &Column) {
+    fn add_turn(&mut self, job: &mut Job, column: &Column, length: Duration) {
         let turn = Instant::now();
-        while turn.elapsed() < TURN {
+        while turn.elapsed() < length {
             let start = Instant::now();
             for _ in 0..self.batch {
                 job.run_in_turn(column);
@@ -83,17 +83,17 @@ pub fn time(job: &mut Job, columns: &[&Column], least: Least) -> Vec<f64> {
     while !times.iter().all(|times| times.enough(least)) {
         for (times, column) in times.iter_mut().zip(columns) {
             if !times.enough(least) {
-                times.add_turn(job, column);
+                times.add_turn(job, column, TURN);
             }
         }
     }
     times.into_iter().map(Times::median).collect()
 }
 
-/// The median time of a comparison in one turn, in microseconds.
-pub fn turn(job: &mut Job, column: &Column) -> f64 {
+/// The median time of a comparison in one turn of this length, in microseconds.
+pub fn turn(job: &mut Job, column: &Column, length: Duration) -> f64 {
     let mut times = Times::new();
-    times.add_turn(job, column);
+    times.add_turn(job, column, length);
     times.median()
 }
 

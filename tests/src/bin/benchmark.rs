@@ -3,7 +3,7 @@
 //! instructions on the strings of Wise's paper. First all of them must answer alike, word for word; then the tables are printed,
 //! and what was promised of them. The exit status is 1 where an answer differs or a promise is not kept.
 //! Arguments are names of tables: only those are then made. `climb SECONDS [SEED]` searches for slow inputs
-//! instead; `beside PROGRAM` times this build beside an earlier one, with which that program is linked.
+//! instead; `beside PROGRAM [WORD..]` times this build beside an earlier one, with which that program is linked.
 
 use sigxume_tests::benchmark::{
     beside, climb, counting, cover, matrix, merging, peers, slow, threshold, timing, Promises,
@@ -78,8 +78,8 @@ fn main() -> ExitCode {
         }
         [climb, numbers @ ..] if climb == climb::CLIMB => search(numbers),
         [serve] if serve == beside::SERVE => beside::serve(),
-        [beside, earlier] if beside == beside::BESIDE => {
-            beside::compare(Path::new(earlier)).map_err(|error| error.to_string())
+        [beside, earlier, words @ ..] if beside == beside::BESIDE => {
+            beside::compare(Path::new(earlier), words).map_err(|error| error.to_string())
         }
         names => measure(names),
     };
