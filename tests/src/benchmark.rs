@@ -271,6 +271,11 @@ fn rounded(number: f64) -> f64 {
     (100.0 * number).round() / 100.0
 }
 
+fn median(mut numbers: Vec<f64>) -> f64 {
+    numbers.sort_unstable_by(f64::total_cmp);
+    numbers[numbers.len() / 2]
+}
+
 /// A number with a comma before each three digits.
 fn grouped(number: u64) -> String {
     let digits = number.to_string();

@@ -3,7 +3,7 @@
 //! both.
 
 use super::table::{shown, turn};
-use super::{head, rounded, row, slow, timing, Column, Job, FAST, PLAIN};
+use super::{head, median, rounded, row, slow, timing, Column, Job, FAST, PLAIN};
 use std::collections::hash_map::DefaultHasher;
 use std::error::Error;
 use std::hash::{Hash, Hasher};
@@ -136,11 +136,6 @@ impl Server {
     }
 }
 
-fn median(mut numbers: Vec<f64>) -> f64 {
-    numbers.sort_unstable_by(f64::total_cmp);
-    numbers[numbers.len() / 2]
-}
-
 /// Times both programs on every row, or on those whose names have one of these words, and prints the ratios; whether all answers agree.
 /// The ratio of a row is the median of those of its turns, of which two that are divided by one another follow one another.
 pub fn compare(earlier: &Path, words: &[String]) -> Result<bool, Box<dyn Error>> {
@@ -150,7 +145,7 @@ pub fn compare(earlier: &Path, words: &[String]) -> Result<bool, Box<dyn Error>>
     ];
     let mut good = true;
     let mut ratios = Vec::new();
-    println!("\nThis build beside the earlier one. Median time of a turn in microseconds, and the median of the ratios.\n");
+    println!("\nThis build beside the earlier one. Time of a comparison in microseconds, and the median of the ratios of turns.\n");
     head(&["Row", "this build", "earlier", "this / earlier"].map(String::from));
     for (at, timed) in rows().iter().enumerate() {
         let label = timed.label();

@@ -80,7 +80,7 @@ pub fn agree() -> bool {
 /// Prints the time of a cover, of the comparisons at each minimum and of the one at the least.
 pub fn compare_cover(promises: &mut Promises) {
     println!(
-        "\nCover at every minimum. Median time in microseconds of one run of it, of a comparison at each minimum \
+        "\nCover at every minimum. Time in microseconds of one run of it, of a comparison at each minimum \
          from {MINIMUM} to {COVER_WORDS}, and of one at minimum {MINIMUM}, all by the fast engine with the \
          library's settings; pairs of the first tables.\n"
     );

@@ -1,7 +1,7 @@
 //! The tool's matrix beside the comparisons that it makes: what the files, the threads and the
 //! table cost; and beside it the list of the pairs that reach a threshold.
 
-use super::{grouped, head, rounded, row, Promises};
+use super::{grouped, head, median, rounded, row, Promises};
 use crate::pairs::families;
 use crate::program::bytes;
 use crate::random::Random;
@@ -134,11 +134,6 @@ fn pairs_of(list: &str) -> Vec<[usize; 3]> {
         }
     });
     lines.collect()
-}
-
-fn median(mut times: Vec<f64>) -> f64 {
-    times.sort_unstable_by(f64::total_cmp);
-    times[times.len() / 2]
 }
 
 /// A file that is removed in the end.

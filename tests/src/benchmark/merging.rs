@@ -202,7 +202,7 @@ pub fn agree() -> bool {
 /// Prints the time of merging two records.
 pub fn compare_merging(promises: &mut Promises) {
     println!(
-        "\nMerging. Median time in microseconds of merging two records of {MAX_WORDS} words, of a loop of the same \
+        "\nMerging. Time in microseconds of merging two records of {MAX_WORDS} words, of a loop of the same \
          meaning in Rust, and of reading both and writing one by the core; {PAIRS} pairs in turn (seed {SEED}).\n"
     );
     TABLE.print(&mut jobs(), promises);

@@ -392,7 +392,7 @@ pub fn agree() -> bool {
 /// Prints every engine's time on slow inputs.
 pub fn compare_slow(promises: &mut Promises) {
     println!(
-        "\nSlow inputs. Median time in microseconds; {MAX_WORDS} words a side. A time that does not \
+        "\nSlow inputs. Time in microseconds; {MAX_WORDS} words a side. A time that does not \
          depend on a setting is measured once for all rows that differ in it alone.\n"
     );
     TABLE.print(&mut jobs(), promises);

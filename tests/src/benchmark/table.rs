@@ -53,9 +53,11 @@ impl Times {
         }
     }
 
-    fn median(mut self) -> f64 {
+    /// The time that a quarter of the runs did not exceed. Whatever else the machine does only adds to a time, and where its speed
+    /// changes from second to second the median of one column may be a fast run and that of another a slow one.
+    fn lower_quartile(mut self) -> f64 {
         self.runs.sort_unstable_by(f64::total_cmp);
-        self.runs[self.runs.len() / 2]
+        self.runs[self.runs.len() / 4]
     }
 }
 
@@ -76,7 +78,7 @@ pub const USUAL: Least = Least {
     time: Duration::from_millis(500),
 };
 
-/// The median time of a job in each column, in microseconds. The columns take turns, so that another load
+/// The time of a job in each column, in microseconds. The columns take turns, so that another load
 /// of the machine falls on all of them.
 pub fn time(job: &mut Job, columns: &[&Column], least: Least) -> Vec<f64> {
     let mut times = Vec::from_iter(columns.iter().map(|_| Times::new()));
@@ -87,14 +89,14 @@ pub fn time(job: &mut Job, columns: &[&Column], least: Least) -> Vec<f64> {
             }
         }
     }
-    times.into_iter().map(Times::median).collect()
+    times.into_iter().map(Times::lower_quartile).collect()
 }
 
-/// The median time of a comparison in one turn of this length, in microseconds.
+/// The time of a comparison in one turn of this length, in microseconds.
 pub fn turn(job: &mut Job, column: &Column, length: Duration) -> f64 {
     let mut times = Times::new();
     times.add_turn(job, column, length);
-    times.median()
+    times.lower_quartile()
 }
 
 /// A time in microseconds with four digits, or all before the point.

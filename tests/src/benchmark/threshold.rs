@@ -121,7 +121,7 @@ pub fn agree() -> bool {
 /// Prints the time of an answer about a threshold and that of the comparison.
 pub fn compare_threshold(promises: &mut Promises) {
     println!(
-        "\nWhether a pair scores at least a threshold. Median time in microseconds of the comparison, which gives \
+        "\nWhether a pair scores at least a threshold. Time in microseconds of the comparison, which gives \
          the score, and of the answer yes or no; with the tiles laid until that is decided, and all that the \
          comparison lays. Pairs of the first table, at its minimum and with its settings.\n"
     );

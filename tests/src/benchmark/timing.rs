@@ -242,7 +242,7 @@ pub fn agree_tilings() -> bool {
 /// Prints the fast engine's times and those of Wise's port.
 pub fn compare_ordinary(promises: &mut Promises) {
     println!(
-        "\nOrdinary pairs. Median time of a comparison in microseconds; {MAX_WORDS} words a side unless \
+        "\nOrdinary pairs. Time of a comparison in microseconds; {MAX_WORDS} words a side unless \
          the name says otherwise, {CODES} codes and {PAIRS} pairs in turn where they are random (seed {SEED}), minimum {MINIMUM}, \
          that of four codes {FOUR_MINIMUM}, that of the paper's strings 3; first search length {START}.\n"
     );
@@ -251,7 +251,7 @@ pub fn compare_ordinary(promises: &mut Promises) {
 
 /// Prints the plain engine's times and those of the tilings without an index.
 pub fn compare_tilings(promises: &mut Promises) {
-    println!("\nThe plain engine beside tilings without an index. Median time in microseconds.\n");
+    println!("\nThe plain engine beside tilings without an index. Time in microseconds.\n");
     TILINGS.print(&mut tilings(), promises);
 }
 
