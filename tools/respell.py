@@ -73,7 +73,8 @@ def without_comments(path, text):
 
 def is_proof(path):
     """A file that answers goals: the names that it declares are Rattle's."""
-    return os.path.basename(path) in ("Proof.antt", "Answers.antt", "Invariants.antt")
+    folder, name = os.path.split(path)
+    return name in ("Proof.antt", "Answers.antt", "Invariants.antt") and os.path.basename(folder) != "proofs"
 
 
 def main(argv):

@@ -1,5 +1,6 @@
 // The workspace of a comparison under way: the chains of free words, from which rows and windows are taken; the bounds of rows, and the
 // greatest of each block of 32 rows.
+#![tactic(auto)]
 ghost use Rattle.std.specs.Prelude.{◌≡◌, ◌+◌, ◌-◌, ◌*◌, ◌/◌, ◌≤◌, ◌<◌, min, max, length, take, drop, get_or, set};
 ghost use Rattle.chain.specs.First.{First, Passing};
 ghost use Rattle.chain.specs.Chain.{next_of, Ranged};
@@ -11,7 +12,7 @@ ghost use Rattle.bounds.specs.Blocks.{block_count, BlockSet, Refreshed, rows_end
 use tile::{PatternAt, TextAt};
 
 // What a comparison works on: the lengths of pattern and text, the minimum, and whether the first sequence is the pattern.
-#[derive(Drop)]
+#[derive(Clone, Copy)]
 pub struct Job {
     pub n: usize,
     pub m: usize,
@@ -269,13 +270,13 @@ pub fn later_row(ws: &[u32], job: Job, blocks: &[u32; 64], level: usize, p: Patt
 }
 
 // A stretch of free rows, and one of the text.
-#[derive(Drop)]
+#[derive(Clone, Copy)]
 pub struct Rows {
     pub from: PatternAt,
     pub to: PatternAt,
 }
 
-#[derive(Drop)]
+#[derive(Clone, Copy)]
 pub struct Texts {
     pub from: TextAt,
     pub to: TextAt,

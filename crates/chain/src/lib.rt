@@ -1,4 +1,5 @@
 // The free words of a sequence as a chain: each has an entry that says where the next one stands and where the one before.
+#![tactic(auto)]
 ghost use Rattle.std.specs.Prelude.{◌≡◌, ◌+◌, ◌-◌, ◌/◌, ◌≤◌, ◌<◌, length, get_or, set};
 ghost use Rattle.chain.specs.First.{First, Last};
 ghost use Rattle.chain.specs.Chain.{Free, gap_before, next_of, before_of, entry, Ranged, Chained};
@@ -6,7 +7,7 @@ ghost use Rattle.chain.specs.Unlinked.{pointed_on, pointed_back, led, mended, le
 ghost use Rattle.chain.specs.Stretches.{Zeros, ZeroTail, ZerosFrom, Joined, StretchBefore};
 
 // A stretch of free words, and where it ends.
-#[derive(Drop)]
+#[derive(Clone, Copy)]
 pub struct Stretch {
     pub from: usize,
     pub to: usize,

@@ -20,7 +20,7 @@ use Rattle.tiling.specs.Demand.{long, tiles_in}
 use Rattle.tiling.specs.declared.Compared.{Compared}
 use Rattle.tiling.proofs.Comparing.{comparable, search_in_range, fast_roomy, fast_rest}
 use Rattle.tiling.proofs.Demand.{listing_begins, tiles_fit}
-use Rattle.tiling.proofs.Answers.{answers-listed, answers-demands}
+use Rattle.tiling.proofs.Answers.{answers_listed, answers_demands}
 use Rattle.ends.specs.Ends.{refused_by}
 use Rattle.ends.proofs.Closing.{compare_refused, compare_passed}
 use Rattle.cover.specs.Promise.{cover_refusal, cover_at, EveryMinimum}
@@ -68,16 +68,16 @@ module _ (first second : List ℕ) (ws b : List ℕ) (a : Compared) (ws' b' : Li
     -- The tiles stand whole in the buffer, and what they cover is at most a length.
     pub tiles_whole : length b' ≡ length b → 3 * a.tiles ≤ length b'
     tiles_whole same =
-        let counted : a.tiles ≡ length (listing first second 1) = (answers-demands c not_refused k.can).tiles ∙ ap length (answers-listed c not_refused) in
+        let counted : a.tiles ≡ length (listing first second 1) = (answers_demands c not_refused k.can).tiles ∙ ap length (answers_listed c not_refused) in
         omega (arith, counted, tiles_fit first second 1 (omega arith), k.room.tile_room)
 
     pub tiles_few : covered (tiles_in a.tiles b') ≤ 2048
-    tiles_few = omega (arith, (answers-demands c not_refused k.can).tiled.within_first, k.can.first_short)
+    tiles_few = omega (arith, (answers_demands c not_refused k.can).tiled.within_first, k.can.first_short)
 
   listed_entries : (e e' : List ℕ) → e' ≡ onto (tabulate (cover_of (tiles_in a.tiles b')) 256) e → e' ≡ onto (tabulate (cover_at first second) 256) e
   listed_entries e e' f =
       let same : tabulate (cover_of (tiles_in a.tiles b')) 256 ≡ tabulate (cover_at first second) 256 =
-      ap (λ es. tabulate (cover_of es) 256) (answers-listed c not_refused) ∙ tabulate_same (cover_of (listing first second 1)) (cover_at first second) (cover_of_lem first second) 256 in
+      ap (λ es. tabulate (cover_of es) 256) (answers_listed c not_refused) ∙ tabulate_same (cover_of (listing first second 1)) (cover_at first second) (cover_of_lem first second) 256 in
       f ∙ ap (λ xs. onto xs e) same
 
 -- ---- the promise, where r is the refusal's number by the code

@@ -1,5 +1,6 @@
 // What two sequences cover at every minimum, from one comparison at minimum 1. The tiles at a greater minimum are the first ones at
 // a smaller, so that one walk along the tile buffer gives all of them.
+#![tactic(auto)]
 ghost use Rattle.std.specs.Prelude.{◌≡◌, ◌*◌, ◌≤◌, length};
 ghost use Rattle.buffer.specs.Buffer.{onto, tabulate};
 ghost use Rattle.tiling.specs.Listing.{covered};
@@ -11,7 +12,7 @@ use search::Settings;
 use tiling::Compared;
 
 // How far a walk along the tiles has come: how many it has passed, and how many words they cover.
-#[derive(Drop)]
+#[derive(Clone, Copy)]
 struct Walk {
     passed: usize,
     words: u32,

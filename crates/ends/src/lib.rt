@@ -1,6 +1,7 @@
 // The two ends of a comparison, the same for both engines. Before it the pattern is chosen, and both sequences are copied to the
 // workspace; after it the workspace is cleared and the answer made. What lies between goes from one state of the workspace to
 // another and knows nothing of either.
+#![tactic(auto)]
 ghost use Rattle.std.specs.Prelude.{◌≡◌, ◌++◌, map, ◌+◌, ◌*◌, ◌≤◌, length, replicate};
 ghost use Rattle.symbol.specs.Word.{replaced};
 ghost use Rattle.buffer.specs.Buffer.{onto};

@@ -15,7 +15,7 @@ use Rattle.tiling.specs.Answer.{Compares}
 use Rattle.tiling.specs.declared.Compared.{Compared}
 use Rattle.tiling.proofs.Comparing.{comparable_exchange, fast_passes}
 use Rattle.tiling.proofs.Demand.{covered_falls, exchange_covered}
-use Rattle.tiling.proofs.Answers.{answers_number, answers-covered, answers-exchange}
+use Rattle.tiling.proofs.Answers.{answers_number, answers_covered, answers_exchange}
 use Rattle.cover.specs.Promise.{cover_refusal, cover_at, cover_buffer, EveryMinimum}
 use Rattle.cover.proofs.Accepted.{Accepted, accepted}
 use Rattle.engines.specs.Engine.{Engine, fast, Promise}
@@ -48,11 +48,11 @@ module _ {first second : List ℕ} (buckets start : ℕ) {ws b es : List ℕ} {a
 
   -- So it is what either engine answers at that minimum, however it is set.
   pub cover_engine : (e : Engine) (k : ℕ) → k < 256 → {ws₁ b₁ : List ℕ} {a₁ : Compared} {ws₁' b₁' : List ℕ} → Promise e first second (k + 1) ws₁ b₁ a₁ ws₁' b₁' → a₁.refusal ≡ 0 → get_or es' k 0 ≡ a₁.covered
-  cover_engine e k h c₁ z₁ = cover_entry k h ∙ sym (answers-covered c₁ z₁)
+  cover_engine e k h c₁ z₁ = cover_entry k h ∙ sym (answers_covered c₁ z₁)
 
   -- Entry 0 is the reply's covered.
   pub cover_first : get_or es' 0 0 ≡ a.covered
-  cover_first = cover_entry 0 (omega arith) ∙ sym (answers-covered c.compares z)
+  cover_first = cover_entry 0 (omega arith) ∙ sym (answers_covered c.compares z)
 
   -- "The entries therefore never rise."
   pub cover_falls : (i j : ℕ) → i ≤ j → j < 256 → get_or es' j 0 ≤ get_or es' i 0
@@ -67,6 +67,6 @@ cover_exchange {first} {second} buckets buckets' start start' {ws₁ = ws₁} {b
     fast_passes second first 1 (length ws₁) (length b₁) (comparable_exchange k.can) r buckets' start' _ i ∙ rw (le-ltb (length es₁) 256 room) refl in
     let z' : a'.refusal ≡ 0 = ap (λ x. x.refusal) c'.compares.answer ∙ n in
     record {
-      exchanges = answers-exchange c.compares c'.compares (n ∙ sym (number buckets start c z));
+      exchanges = answers_exchange c.compares c'.compares (n ∙ sym (number buckets start c z));
       entries = λ k h. cover_entry buckets' start' c' z' k h ∙ (exchange_covered first second (k + 1) ∙ sym (cover_entry buckets start c z k h));
     }

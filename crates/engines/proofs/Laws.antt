@@ -20,7 +20,7 @@ use Rattle.tiling.specs.Demand.{long, tiles_of, EqualStarts, Demands, Exchanges}
 use Rattle.tiling.specs.declared.Compared.{Compared}
 use Rattle.tiling.proofs.Comparing.{comparable, search_in_range, in_range_passes, plain_accepts, fast_passes, comparable_exchange, plain_refusal_exchange, fast_checks_exchange}
 use Rattle.tiling.proofs.Demand.{covered_falls, score_falls}
-use Rattle.tiling.proofs.Answers.{answers_number, answers-covered, answers-demands, answers-outside, answers-equal, answers-exchange, answers-begin}
+use Rattle.tiling.proofs.Answers.{answers_number, answers_covered, answers_demands, answers_outside, answers_equal, answers_exchange, answers_begin}
 use Rattle.plain.specs.Promise.{Plain}
 use Rattle.search.specs.Promise.{Fast}
 use Rattle.engines.specs.Engine.{Engine, plain, fast, Promise, refusal_by, OwnRefusal, SetFor}
@@ -62,16 +62,16 @@ module _ (e : Engine) {first second : List ℕ} {minimum : ℕ} {ws b : List ℕ
 
   -- All that demand 3 and 01 say of the answer and of the tiles listed.
   pub engine_demands : Demands first second minimum a b'
-  engine_demands = answers-demands c accepted accepted_comparable
+  engine_demands = answers_demands c accepted accepted_comparable
 
   -- The tiles are those of an outside comparison, which knows no retired code, of the words replaced beforehand, except for the choice of
   -- pattern.
   pub engine_outside : tiles_of a b' ≡ outside_listing first second minimum
-  engine_outside = answers-outside c accepted
+  engine_outside = answers_outside c accepted
 
 -- A sequence with itself, handed in twice: each tile has equal starts.
 pub engine_equal_starts : (e : Engine) {s : List ℕ} {minimum : ℕ} {ws b : List ℕ} {a : Compared} {ws' b' : List ℕ} → Promise e s s minimum ws b a ws' b' → Each EqualStarts (tiles_of a b')
-engine_equal_starts e c = answers-equal c
+engine_equal_starts e c = answers_equal c
 
 -- ---- two calls on equal input, by any two engines
 -- A record that gives everything outright has one solution.
@@ -145,24 +145,24 @@ module _ (e e' : Engine) {first second : List ℕ} {minimum : ℕ} {ws b ws₁ b
   -- tile exchanged.
   pub engines_exchange : a.refusal ≡ 0 → SetFor e' minimum → Roomy (length second) (length first) minimum (length ws₁) (length b₁) → Exchanges a b' a' b₁'
   engines_exchange z s r =
-      answers-exchange c c'
+      answers_exchange c c'
       (accepts e' second first minimum (length ws₁) (length b₁) (comparable_exchange (accepted_comparable e c z)) r s ∙ sym (number e c z))
 
 -- The same engine with the same settings, and a workspace and a tile buffer of the same sizes, refuses for the same cause, too.
 pub exchange_alike : (e : Engine) {first second : List ℕ} {minimum : ℕ} {ws b ws₁ b₁ : List ℕ} {a a' : Compared} {ws' b' ws₁' b₁' : List ℕ} → Promise e first second minimum ws b a ws' b' → Promise e second first minimum ws₁ b₁ a' ws₁' b₁' → length ws₁ ≡ length ws → length b₁ ≡ length b → Exchanges a b' a' b₁'
 exchange_alike e {first} {second} {minimum} {ws} {b} c c' w t =
-    answers-exchange c c' (rw (w, t) (refusal_exchange e second first minimum (length ws) (length b)))
+    answers_exchange c c' (rw (w, t) (refusal_exchange e second first minimum (length ws) (length b)))
 
 -- ---- a greater minimum
 -- "the tiles at a greater minimum are exactly the first tiles at a smaller one, down to the last tile long enough", whichever engines laid them.
 pub engines_begin : (e e' : Engine) {first second : List ℕ} {minimum longer : ℕ} {ws b ws₁ b₁ : List ℕ} {a a' : Compared} {ws' b' ws₁' b₁' : List ℕ} → Promise e first second minimum ws b a ws' b' → Promise e' first second longer ws₁ b₁ a' ws₁' b₁' → a.refusal ≡ 0 → a'.refusal ≡ 0 → minimum ≤ longer → Begins long longer (tiles_of a' b₁') (tiles_of a b')
-engines_begin e e' c c' z z' h = answers-begin c c' z z' (accepted_comparable e c z).least h
+engines_begin e e' c c' z z' h = answers_begin c c' z z' (accepted_comparable e c z).least h
 
 -- So neither covered nor the score rises with the minimum.
 module _ (e e' : Engine) {first second : List ℕ} {minimum longer : ℕ} {ws b ws₁ b₁ : List ℕ} {a a' : Compared} {ws' b' ws₁' b₁' : List ℕ} (c : Promise e first second minimum ws b a ws' b') (c' : Promise e' first second longer ws₁ b₁ a' ws₁' b₁') (z : a.refusal ≡ 0) (z' : a'.refusal ≡ 0) (h : minimum ≤ longer) where
   pub engines_covered_falls : a'.covered ≤ a.covered
   engines_covered_falls =
-      rw (answers-covered c z, answers-covered c' z') (covered_falls first second minimum longer (accepted_comparable e c z).least h)
+      rw (answers_covered c z, answers_covered c' z') (covered_falls first second minimum longer (accepted_comparable e c z).least h)
 
   pub engines_score_falls : a'.score ≤ a.score
   engines_score_falls =

@@ -14,7 +14,7 @@ use Rattle.tiling.specs.Comparing.{Comparable, InRange}
 use Rattle.tiling.specs.Listing.{listing, covered, score}
 use Rattle.tiling.specs.declared.Compared.{Compared}
 use Rattle.tiling.proofs.Comparing.{comparable, comparable_exchange, search_passes}
-use Rattle.tiling.proofs.Answers.{answers-covered, answers-listed}
+use Rattle.tiling.proofs.Answers.{answers_covered, answers_listed}
 use Rattle.threshold.specs.Promise.{is_reached, told_tiles, told_answer, threshold_refusal, AtLeast}
 use Rattle.threshold.specs.declared.Told.{Told}
 use Rattle.threshold.proofs.Refusal.{accepted_threshold}
@@ -46,13 +46,13 @@ module _ {first second : List ℕ} {minimum : ℕ} (buckets start : ℕ) {thresh
   pub threshold_engine : (e : Engine) {ws₁ b₁ : List ℕ} {a₁ : Compared} {ws₁' b₁' : List ℕ} → Promise e first second minimum ws₁ b₁ a₁ ws₁' b₁' → a₁.refusal ≡ 0 → a.reached ≡ one (leb threshold a₁.score)
   threshold_engine e {a₁ = a₁} c₁ z₁ =
       let s : a₁.score ≡ score (covered (listing first second minimum)) (length first + length second) =
-      (engine_demands e c₁ z₁).score ∙ ap (λ n. score n (length first + length second)) (answers-covered c₁ z₁) in
+      (engine_demands e c₁ z₁).score ∙ ap (λ n. score n (length first + length second)) (answers_covered c₁ z₁) in
       threshold_reached ∙ ap (λ n. one (leb threshold n)) (sym s)
 
   -- The tiles laid are no more than that comparison's: they are its first.
   pub threshold_within : (e : Engine) {ws₁ b₁ : List ℕ} {a₁ : Compared} {ws₁' b₁' : List ℕ} → Promise e first second minimum ws₁ b₁ a₁ ws₁' b₁' → a₁.refusal ≡ 0 → a.tiles ≤ a₁.tiles
   threshold_within e c₁ z₁ =
-      omega (arith, threshold_tiles, told_within first second minimum threshold, (engine_demands e c₁ z₁).tiles, ap length (answers-listed c₁ z₁))
+      omega (arith, threshold_tiles, told_within first second minimum threshold, (engine_demands e c₁ z₁).tiles, ap length (answers_listed c₁ z₁))
 
 -- Yes at a threshold is yes at every lower one.
 yes_lower : (s t t' : ℕ) → t' ≤ t → one (leb t s) ≡ 1 → one (leb t' s) ≡ 1

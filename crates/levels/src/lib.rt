@@ -1,4 +1,5 @@
 // The tiles of one pass: rows are searched by the index, level by level, and their tiles are laid.
+#![tactic(auto)]
 ghost use Rattle.std.specs.Prelude.{◌≡◌, false, ◌+◌, ◌≤◌, ◌<◌};
 ghost use Rattle.bounds.specs.Workspace.{bound};
 ghost use Rattle.bounds.specs.Blocks.{Covering, Falling};
@@ -11,7 +12,7 @@ use sweep::{Found, Round, Totals};
 use tile::PatternAt;
 
 // A turn of a sweep: the row that is visited, and what is laid before it.
-#[derive(Drop)]
+#[derive(Clone, Copy)]
 struct Turn {
     p: PatternAt,
     totals: Totals,

@@ -1,6 +1,7 @@
 // How long a run is, and where two words stand side by side. Words are looked at in blocks: a block is tested as a whole, and nothing
 // in it branches on a word, so that the compiler tests several words at once. The words are those of a workspace, which are replaced
 // already, so two of them match where they are equal calls.
+#![tactic(auto)]
 ghost use Rattle.std.specs.Prelude.{◌≡◌, ◌≤◌, max, leb, length};
 ghost use Rattle.tiling.specs.Run.{equal_run};
 ghost use Rattle.measure.specs.Block.{block, whole_blocks, counted};

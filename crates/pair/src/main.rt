@@ -2,6 +2,7 @@
 // by report's contract, which asks for the lengths of both buffers. That main hands the bytes on is not proved: no contract
 // can say which bytes a read or a write moves. A read that fails ends the input, and a write that fails goes unreported, since
 // a program has no exit status.
+#![tactic(auto)]
 use libc::{STDIN_FILENO, STDOUT_FILENO};
 use report::{INPUT_BYTES, REPORT_BYTES};
 

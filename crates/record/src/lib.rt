@@ -1,4 +1,5 @@
 // Reads and writes records: a header with id and count, a sequence, a trailer with a checksum.
+#![tactic(auto)]
 ghost use Rattle.std.specs.Prelude.{◌≡◌, ◌+◌, ◌^◌, ◌≤◌, ◌<◌, length, take, set, [], ◌∷◌, ◌++◌};
 ghost use Rattle.buffer.specs.Buffer.{onto};
 ghost use Rattle.record.specs.Format.{header, id_of, count_of, trailer};
@@ -9,7 +10,7 @@ use symbol::Counted;
 
 // The answer of reading: a refusal's number and zeros, or 0 and what was read.
 #[repr(C)]
-#[derive(Drop)]
+#[derive(Clone, Copy)]
 pub struct ReadAnswer {
     pub refusal: u32,
     pub id: u32,

@@ -16,7 +16,7 @@ use Rattle.tiling.specs.Demand.{Stands, tiles_in}
 use Rattle.tiling.specs.declared.Compared.{Compared}
 use Rattle.tiling.proofs.Comparing.{comparable}
 use Rattle.tiling.proofs.Each.{each_both}
-use Rattle.tiling.proofs.Answers.{answers_number, answers-listed, answers-demands}
+use Rattle.tiling.proofs.Answers.{answers_number, answers_listed, answers_demands}
 use Rattle.tiling.proofs.Demand.{tiles_fit}
 use Rattle.search.specs.Promise.{Fast}
 use Rattle.report.specs.Pair.{refused_line, comparing, pair_lines, from_pair}
@@ -46,9 +46,9 @@ module _ {first second : List ℕ} {minimum start : ℕ} {ws b : List ℕ} {a : 
   laid z =
       let known = comparable first second minimum _ (answers_number fast z) in
       let one = known.least in
-      let d = answers-demands fast z known in
+      let d = answers_demands fast z known in
       let n = min (length first) (length second) in
-      let counted : a.tiles ≡ length (listing first second minimum) = d.tiles ∙ ap length (answers-listed fast z) in
+      let counted : a.tiles ≡ length (listing first second minimum) = d.tiles ∙ ap length (answers_listed fast z) in
       let few : a.tiles ≤ 2048 = omega (arith, tiles_fit first second minimum one, div-le_self n minimum, counted) in
       record {
         few = few;
@@ -59,7 +59,7 @@ module _ {first second : List ℕ} {minimum start : ℕ} {ws b : List ℕ} {a : 
       }
 
   pub searched : Searched first second minimum a b'
-  searched = record { refusal = number; laid = laid; listed = λ z. answers-listed fast z }
+  searched = record { refusal = number; laid = laid; listed = λ z. answers_listed fast z }
 
 -- ---- what is written
 module _ (first second : List ℕ) (minimum : ℕ) (a : Compared) (tiles : List ℕ) (e : Searched first second minimum a tiles) where

@@ -1,4 +1,5 @@
 // The pair program's report: from the bytes of its input to the bytes of its output.
+#![tactic(auto)]
 ghost use Rattle.std.specs.Prelude.{◌≡◌, List, [], ◌∷◌, ℕ, ◌+◌, ◌*◌, ◌≤◌, ◌<◌, max, length, take};
 ghost use Rattle.io.specs.Counts.{IsPrefixLen};
 ghost use Rattle.buffer.specs.Buffer.{onto};
@@ -126,7 +127,7 @@ fn closing_lines(out: &mut [u8], at: usize, sum: u32, n: u32, m: u32, points: u3
 }
 
 // What the report says of a pair besides the answer: the two fish, the minimum, and how many words each sequence has.
-#[derive(Drop)]
+#[derive(Clone, Copy)]
 struct Heading {
     a: u32,
     b: u32,

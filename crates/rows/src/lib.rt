@@ -1,5 +1,6 @@
 // Rows searched by the index. A word of the pattern is compared with one of the text in `visit` and in `goes_on`, only where two
 // windows have the same hash, and nowhere else in the fast engine.
+#![tactic(auto)]
 ghost use Rattle.std.specs.Prelude.{◌&&◌, ◌≡◌, ◌+◌, ◌-◌, ◌≤◌, ◌<◌, eqb, ltb, drop, get_or, set};
 ghost use Rattle.tiling.specs.Tiling.{run_at};
 ghost use Rattle.measure.specs.Block.{counted};
@@ -16,7 +17,7 @@ use tile::{PatternAt, TextAt};
 
 // How far the search of a row has come: what was found, the offset at which the last run that was measured ended, how often the row's
 // first word stands again right after it, and up to which position the text is passed over.
-#[derive(Drop)]
+#[derive(Clone, Copy)]
 struct Walk {
     found: Found,
     ended: usize,

@@ -1,4 +1,5 @@
 // The fast engine, Running Karp-Rabin: its settings, its checks, and its passes between the two ends of a comparison.
+#![tactic(auto)]
 ghost use Rattle.std.specs.Prelude.{◌≡◌, length};
 ghost use Rattle.tiling.specs.Comparing.{search_checks, fast_refusal, Comparable, InRange, Roomy};
 ghost use Rattle.tiling.specs.Answer.{Compares};
@@ -10,7 +11,7 @@ use sweep::{Goal, Totals};
 use tiling::Compared;
 
 // How the search is set: the multiplier of its hashes, which may be any, its bucket count, and its first search length.
-#[derive(Drop)]
+#[derive(Clone, Copy)]
 pub struct Settings {
     pub multiplier: u32,
     pub buckets: u32,

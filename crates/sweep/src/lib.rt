@@ -1,4 +1,5 @@
 // What both engines share of a comparison under way: what is known of a row without a search, laying a tile, and where to stop.
+#![tactic(auto)]
 ghost use Rattle.std.specs.Prelude.{◌≡◌, true, false, ◌+◌, ◌*◌, ◌≤◌, ◌<◌, ltb, length, drop};
 ghost use Rattle.tiling.specs.Run.{run, equal_run, mark};
 ghost use Rattle.tiling.specs.Stretch.{fillable};
@@ -14,7 +15,7 @@ use bounds::Job;
 use tile::{PatternAt, TextAt};
 
 // The longest run of a row and the first position on the text that has it.
-#[derive(Drop)]
+#[derive(Clone, Copy)]
 pub struct Found {
     pub t: TextAt,
     pub len: usize,
@@ -22,7 +23,7 @@ pub struct Found {
 
 // What a comparison is for: whether its tiles are listed, and where it stops: when as many words are covered as are enough, or
 // when fewer than are needed can still be. A whole comparison lists its tiles and never stops.
-#[derive(Drop)]
+#[derive(Clone, Copy)]
 pub struct Goal {
     pub listed: bool,
     pub enough: usize,
@@ -31,7 +32,7 @@ pub struct Goal {
 
 // The record of a comparison under way: the tiles laid so far, how many words they cover, and how many words of the pattern
 // further tiles may take, which are those in free stretches of at least the minimum; and its goal.
-#[derive(Drop)]
+#[derive(Clone, Copy)]
 pub struct Totals {
     pub count: usize,
     pub covered: usize,
@@ -40,7 +41,7 @@ pub struct Totals {
 }
 
 // A round of the sweep: the level, and what is laid before it.
-#[derive(Drop)]
+#[derive(Clone, Copy)]
 pub struct Round {
     pub level: usize,
     pub totals: Totals,

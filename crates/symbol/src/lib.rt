@@ -1,4 +1,5 @@
 // Words of 32 bits: which may stand in a sequence, which are retired, and which two match.
+#![tactic(auto)]
 ghost use Rattle.std.specs.Prelude.{◌≡◌};
 ghost use Rattle.symbol.specs.Word.{is_call, is_no_call, is_sound, is_retired, replaced, equal_calls, matches};
 ghost use Rattle.symbol.specs.Sequence.{all_sound, none_retired};
@@ -10,7 +11,7 @@ const REPLACEMENTS: [u32; 16] = [
 
 // The answer of a call that counts what it wrote: a refusal's number and 0, or 0 and the count.
 #[repr(C)]
-#[derive(Drop)]
+#[derive(Clone, Copy)]
 pub struct Counted {
     pub refusal: u32,
     pub count: u32,

@@ -1,5 +1,6 @@
 // Whether two sequences score at least a threshold, and how many tiles it takes to tell: it stops laying them when that many words
 // are covered, or when so many no longer can be.
+#![tactic(auto)]
 ghost use Rattle.std.specs.Prelude.{◌≡◌, ◌+◌, ◌*◌, ◌≤◌, length, replicate};
 ghost use Rattle.tiling.specs.Tally.{one};
 ghost use Rattle.tiling.specs.Comparing.{Comparable, InRange};
@@ -11,7 +12,7 @@ use sweep::Goal;
 
 // The answer: a refusal's number and zeros, or 0, whether the threshold is reached, 1 or 0, and the tiles laid.
 #[repr(C)]
-#[derive(Drop)]
+#[derive(Clone, Copy)]
 pub struct Told {
     pub refusal: u32,
     pub reached: u32,

@@ -1,4 +1,5 @@
 // What both engines do with words and tiles: marking, listing, scoring.
+#![tactic(auto)]
 ghost use Rattle.std.specs.Prelude.{◌≡◌, [], ◌∷◌, ◌++◌, ℕ, ◌+◌, ◌*◌, ◌≤◌, ◌<◌, length, take, drop};
 ghost use Rattle.buffer.specs.Buffer.{onto};
 ghost use Rattle.tiling.specs.Run.{mark};
@@ -6,10 +7,10 @@ ghost use Rattle.tiling.specs.Listing.{tile_words, score, shift};
 ghost use Rattle.tile.specs.Listed.{listed};
 
 // A position on the pattern, and one on the text. They count from separate zeros, so they are of two types.
-#[derive(Drop)]
+#[derive(Clone, Copy)]
 pub struct PatternAt(pub usize);
 
-#[derive(Drop)]
+#[derive(Clone, Copy)]
 pub struct TextAt(pub usize);
 
 // Marks len words from position at on.

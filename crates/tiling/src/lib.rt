@@ -1,8 +1,9 @@
 // The tiling's definition and laws, and the answer of a comparison.
+#![tactic(auto)]
 
 // A refusal's number and zeros; or 0, the number of tiles, the words that they cover, and the score.
 #[repr(C)]
-#[derive(Drop)]
+#[derive(Clone, Copy)]
 pub struct Compared {
     pub refusal: u32,
     pub tiles: u32,

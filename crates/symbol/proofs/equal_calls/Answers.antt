@@ -2,11 +2,7 @@
 -- just where both are, the difference of two words bit by bit just where they are equal.
 -- Assumes nothing.
 use Rattle.symbol.proofs.Word.{calls_test}
-use Rattle.symbol.proofs.equal_calls.Statement.{statement}
-use Rattle.symbol.proofs.equal_calls.Tie as tie
+use Rattle.symbol.proofs.equal_calls.Goals as goal
 
-returns : tie.Need-returns
+pub returns : goal.returns
 returns c = search calls_test
-
-pub equal-calls-spec : {M : Type 1} → statement M
-equal-calls-spec = tie.close (tie.spec returns)

@@ -1,0 +1,11 @@
+-- `window::hash_of` meets its contract: after i turns h is the hash of the first i words.
+-- Assumes nothing.
+use Rattle.std.proofs.Common.{◌-◌, length, rules}
+use Rattle.window.proofs.Hash.{Hashed, hashed_none, hashed_more, hashed_all}
+use Rattle.window.proofs.hash_of.Given as goal
+
+abbrev pub invariant-loop-i : goal.invariant-loop-i
+invariant-loop-i l = Hashed l.b l.window l.h l.i
+
+abbrev pub decreases-loop-i : goal.decreases-loop-i
+decreases-loop-i l = length l.window - l.i
