@@ -1,0 +1,30 @@
+-- `measure::blocks_before` meets its contract: at the head of each turn n positions are passed, in whole blocks, and the loop ends
+-- where a list has too few words for another block, or at a block that has a and b side by side.
+-- Assumes nothing.
+use Prim.Native.Nat.{◌-◌, ◌≤◌}
+use native.Mathlib.Omega.{arith}
+use lib.ListN.{length}
+use borrow.Author.Tests.{leb-true}
+use Rattle.measure.specs.Before.{before}
+use Rattle.measure.proofs.Blocks.{Blocks, block_room, blocks_none, blocks_more, blocks_stop}
+use Rattle.measure.proofs.Pairs.{pairs_after, short_first, short_second}
+use borrow.Author.Rules.{rules}
+use Rattle.measure.proofs.blocks_before.Goals as goal
+
+pub loop-n-init : goal.loop-n-init
+loop-n-init c = (search blocks_none, search rules, search rules)
+
+pub block_lacks-requires : goal.block_lacks-requires
+block_lacks-requires c = (search block_room, search (block_room, leb-true))
+
+pub loop-n-preserved : goal.loop-n-preserved
+loop-n-preserved c = (search (blocks_more, pairs_after), search rules, omega (arith, leb-true))
+
+pub returns-else-block_lacks : goal.returns-else-block_lacks
+returns-else-block_lacks c = search (blocks_stop, pairs_after)
+
+pub returns-else-others-n-ge-BLOCK : goal.returns-else-others-n-ge-BLOCK
+returns-else-others-n-ge-BLOCK c = search short_second
+
+pub returns-after-loop-n : goal.returns-after-loop-n
+returns-after-loop-n c = search short_first

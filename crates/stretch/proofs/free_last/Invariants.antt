@@ -1,0 +1,15 @@
+-- `stretch::free_last` meets its contract: at the head of each turn the words seen so far are free, from the last on.
+-- Assumes nothing.
+use Prim.Native.Nat.{◌-◌, min}
+use mathlib.Core.Path.{◌≡◌}
+use borrow.Author.Tests.{eqb-true, eqb-false, not-true, not-false}
+use lib.ListN.{length, get_or}
+use Rattle.stretch.proofs.Sides.{Seen, seen_none, seen_more, last_all, last_marked}
+use borrow.Author.Rules.{rules}
+use Rattle.stretch.proofs.free_last.Given as goal
+
+abbrev pub invariant-loop-i : goal.invariant-loop-i
+invariant-loop-i l = Seen (λ k. get_or l.words (length l.words - 1 - k) 0) l.n l.i × (l.last ≡ length l.words) × (l.n ≡ min l.most (length l.words))
+
+abbrev pub decreases-loop-i : goal.decreases-loop-i
+decreases-loop-i l = l.n - l.i
