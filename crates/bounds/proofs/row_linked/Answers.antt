@@ -1,0 +1,8 @@
+-- `bounds::row_linked` meets its contract: it reads the entry of the row.
+-- Assumes nothing.
+use Rattle.bounds.proofs.Workspace.{linked_row}
+use borrow.Author.Rules.{rules}
+use Rattle.bounds.proofs.row_linked.Goals as goal
+
+pub returns : goal.returns
+returns c = search linked_row

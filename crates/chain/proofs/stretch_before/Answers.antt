@@ -1,0 +1,12 @@
+-- `chain::stretch_before` meets its contract: the last free word before `end` ends the stretch, and the words that are joined to it are free, one
+-- before another. The first of them does not have its neighbour for the previous one, so that neighbour is not free.
+-- Assumes nothing.
+use Rattle.chain.proofs.Stretches.{stretch_none, stretch_joined}
+use borrow.Author.Rules.{rules}
+use Rattle.chain.proofs.stretch_before.Goals as goal
+
+pub returns-then-to-eq0 : goal.returns-then-to-eq0
+returns-then-to-eq0 c = search stretch_none
+
+pub returns : goal.returns
+returns c = search stretch_joined

@@ -1,0 +1,14 @@
+-- `ends::first_is_pattern` meets its contract: the lengths choose where they differ; else the words before i are equal, at first those of
+-- the run that both begin with, and the first that differ choose.
+-- Assumes nothing.
+use Prim.Native.Nat.{◌-◌}
+use lib.ListN.{length}
+use Rattle.ends.proofs.Choosing.{Alike, lengths_choose, alike_more, word_chooses, none_differs, alike_run}
+use borrow.Author.Rules.{rules}
+use Rattle.ends.proofs.first_is_pattern.Given as goal
+
+abbrev pub invariant-loop-i : goal.invariant-loop-i
+invariant-loop-i l = Alike l.first l.second l.i
+
+abbrev pub decreases-loop-i : goal.decreases-loop-i
+decreases-loop-i l = length l.first - l.i

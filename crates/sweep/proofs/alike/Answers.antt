@@ -1,0 +1,15 @@
+-- `sweep::alike` meets its contract: the words are compared in parts that are cut after len + 1 of them, and where there are fewer the rows are not
+-- so long.
+-- Assumes nothing.
+use Rattle.sweep.proofs.Told.{alike_short, alike_short_other, alike_is}
+use borrow.Author.Rules.{rules}
+use Rattle.sweep.proofs.alike.Goals as goal
+
+pub returns-then-job-a : goal.returns-then-job-a
+returns-then-job-a c = search alike_short
+
+pub returns-then-job-b : goal.returns-then-job-b
+returns-then-job-b c = search alike_short_other
+
+pub returns : goal.returns
+returns c = search alike_is

@@ -1,0 +1,15 @@
+-- `sweep::alike_bound` meets its contract: the words are compared only where the other row's bound is below cap.
+-- Assumes nothing.
+use borrow.Author.Tests.{not-true, not-false}
+use Rattle.sweep.proofs.Told.{by_cap, by_unlike, by_alike}
+use borrow.Author.Rules.{rules}
+use Rattle.sweep.proofs.alike_bound.Goals as goal
+
+pub returns-then-cap-len : goal.returns-then-cap-len
+returns-then-cap-len c = search by_cap
+
+pub returns-then-not-alike : goal.returns-then-not-alike
+returns-then-not-alike c = search (by_unlike, not-true)
+
+pub returns : goal.returns
+returns c = search (by_alike, not-false)
