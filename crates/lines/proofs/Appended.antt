@@ -9,18 +9,10 @@ use lib.Seq.{take_all, take-length, take_at, drop_at, drop-drop, length-take-le}
 use Rattle.buffer.specs.Buffer.{onto}
 use Rattle.lines.specs.Appended.{Appended}
 
--- A text copied to the tail of a buffer.
-pub appended : (at : ℕ) (b part text : List ℕ) → at + length text ≤ length b → part ≡ take (length text) text ++ drop (length text) (take (length b - at) (drop at b)) → Appended (length text) text at b (at + length text) (take at b ++ (part ++ drop (length b - at) (drop at b)))
-appended at b part text fits e =
-    let tail : take (length b - at) (drop at b) ≡ drop at b = take_all (length b - at) (drop at b) (omega (arith, length-drop at b)) in
-    let last : drop (length b - at) (drop at b) ≡ [] =
-    drop_of_length-le (drop at b) {i = length b - at} (omega (arith, length-drop at b)) in
-    record {
-      within = omega arith;
-      few = omega arith;
-      next = refl;
-      held = rw (e, tail, last, take-length text, append-nil (onto text (drop at b))) refl;
-    }
+-- A text copied to the part of a buffer that is as long.
+pub appended : (at n : ℕ) (b part text : List ℕ) → at + length text ≤ length b → n ≡ length text → part ≡ text → Appended (length text) text at b (at + length text) (take at b ++ (part ++ drop n (drop at b)))
+appended at n b part text fits k e =
+    record { within = omega arith; few = omega arith; next = refl; held = rw (e, k) refl; }
 
 -- Nothing appended.
 pub nothing : (at : ℕ) (b : List ℕ) → at ≤ length b → Appended 0 [] at b at b

@@ -1,0 +1,15 @@
+-- `index::enter_rows` meets its contract: the windows of the stretch that fit are free, and those that reach past it are not, so the entries are set of all
+-- free windows from its start on.
+-- Assumes nothing.
+use Rattle.index.proofs.Rows.{rows_state, rows_space, rows_room, rows_free, rows_raised, rows_entered}
+use borrow.Author.Rules.{rules}
+use Rattle.index.proofs.enter_rows.Goals as goal
+
+pub raise_rows-requires : goal.raise_rows-requires
+raise_rows-requires c = (search rows_space, search rows_room, search rows_free, search rows_raised)
+
+pub returns-clause-ws_unchanged : goal.returns-clause-ws_unchanged
+returns-clause-ws_unchanged c = search rows_state
+
+pub returns-clause-rows_from : goal.returns-clause-rows_from
+returns-clause-rows_from c = search rows_entered

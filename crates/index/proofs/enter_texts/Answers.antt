@@ -1,0 +1,14 @@
+-- `index::enter_texts` meets its contract: hashing the stretch leaves what is linked behind it, and its windows are then linked.
+-- Assumes nothing.
+use Rattle.index.proofs.Texts.{texts_space, texts_ordered, texts_end, texts_linked, texts_state, texts_entered}
+use borrow.Author.Rules.{rules}
+use Rattle.index.proofs.enter_texts.Goals as goal
+
+pub link_stretch-requires : goal.link_stretch-requires
+link_stretch-requires c = (search texts_space, search rules, search texts_ordered, search texts_end, search texts_linked)
+
+pub returns-clause-ws_unchanged : goal.returns-clause-ws_unchanged
+returns-clause-ws_unchanged c = search texts_state
+
+pub returns-clause-texts_from : goal.returns-clause-texts_from
+returns-clause-texts_from c = search texts_entered

@@ -1,0 +1,17 @@
+-- `plain::row_search` meets its contract: at the head of each turn what was found is the longest of the runs before t, or the floor. No longer run
+-- begins at a position that is passed over, nor where too few words are left.
+-- Assumes nothing.
+use Prim.Native.Nat.{◌-◌, ◌≤◌}
+use borrow.Author.Tests.{ltb-true, ltb-false}
+use lib.ListN.{length}
+use Rattle.chain.specs.Chain.{Chained}
+use Rattle.sweep.proofs.Row.{better_least}
+use Rattle.plain.proofs.Scan.{Seen, seen_none, seen_more, start_less, counted_small, seen_last, seen_pattern, seen_text}
+use borrow.Author.Rules.{rules}
+use Rattle.plain.proofs.row_search.Given as goal
+
+abbrev pub invariant-loop-found : goal.invariant-loop-found
+invariant-loop-found l = Seen l.pattern l.text l.floor l.t l.found × (l.ended ≤ l.found.len) × Chained l.text l.chain
+
+abbrev pub decreases-loop-found : goal.decreases-loop-found
+decreases-loop-found l = length l.text - l.t

@@ -1,0 +1,13 @@
+-- `rows::after_run` meets its contract: field by field.
+-- Assumes nothing.
+use native.Mathlib.Omega.{arith}
+use Rattle.sweep.proofs.Passed.{passed_most}
+use Rattle.rows.proofs.Pairs.{after_is}
+use borrow.Author.Rules.{rules}
+use Rattle.rows.proofs.after_run.Goals as goal
+
+add-t8 : tie.Need-overflow-add-t8
+add-t8 c = record { fits = omega (arith, passed_most _ _ _ c.passed_over.ensures) }
+
+pub returns : goal.returns
+returns c = search after_is

@@ -1,0 +1,21 @@
+-- `rows::fill_stretch` meets its contract: at the head of each turn the rows from p on have their bounds, and the last of them caps the row before.
+-- Assumes nothing.
+use Rattle.sweep.proofs.Bounds.{before_row, before_upper, before_inside, row_fits}
+use Rattle.rows.proofs.Bounds.{FillingRows, rows_none, rows_more, rows_all}
+use borrow.Author.Rules.{rules}
+use Rattle.rows.proofs.fill_stretch.Goals as goal
+
+pub loop-p-init : goal.loop-p-init
+loop-p-init c = search rows_none
+
+pub row_bound-after-requires : goal.row_bound-after-requires
+row_bound-after-requires c = (search rules, search rules, search rules, search rules, search before_inside, search before_row, search before_upper)
+
+pub set_bound-requires : goal.set_bound-requires
+set_bound-requires c = (search rules, search before_inside, search row_fits)
+
+pub loop-p-preserved : goal.loop-p-preserved
+loop-p-preserved c = search rows_more
+
+pub returns : goal.returns
+returns c = search rows_all

@@ -1,0 +1,26 @@
+-- `rows::row_bound` meets its contract: a run is at most one word longer than the run one position on, none begins where the pattern has no call, and
+-- none of s words where the filter does not know the window.
+-- Assumes nothing.
+use borrow.Author.Tests.{not-true}
+use Rattle.sweep.proofs.Bounds.{bound_no_call, bound_more}
+use Rattle.rows.proofs.Bounds.{bound_unknown, goes_back}
+use borrow.Author.Rules.{rules}
+use Rattle.rows.proofs.row_bound.Goals as goal
+
+sub-t18 : tie.Need-overflow-sub-t18
+sub-t18 c = search goes_back
+
+pub returns-then-not-is_call : goal.returns-then-not-is_call
+returns-then-not-is_call c = search (bound_no_call, not-true)
+
+pub returns-then-goes_on : goal.returns-then-goes_on
+returns-then-goes_on c = search bound_more
+
+pub returns-then-cap-pass : goal.returns-then-cap-pass
+returns-then-cap-pass c = search bound_more
+
+pub returns-then-entry_of-ne2 : goal.returns-then-entry_of-ne2
+returns-then-entry_of-ne2 c = search bound_unknown
+
+pub capped-requires : goal.capped-requires
+capped-requires c = (search rules, search rules, search rules, search rules, search rules, search bound_more, search rules)
