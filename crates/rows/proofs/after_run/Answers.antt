@@ -6,8 +6,8 @@ use Rattle.rows.proofs.Pairs.{after_is}
 use borrow.Author.Rules.{rules}
 use Rattle.rows.proofs.after_run.Goals as goal
 
-add-t8 : tie.Need-overflow-add-t8
-add-t8 c = record { fits = omega (arith, passed_most _ _ _ c.passed_over.ensures) }
+pub overflow_add-result-2 : goal.overflow_add-result-2
+overflow_add-result-2 c = record { fits = omega (arith, passed_most _ _ _ c.passed_over.ensures) }
 
 pub returns : goal.returns
 returns c = search after_is

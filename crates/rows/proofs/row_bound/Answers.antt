@@ -7,8 +7,8 @@ use Rattle.rows.proofs.Bounds.{bound_unknown, goes_back}
 use borrow.Author.Rules.{rules}
 use Rattle.rows.proofs.row_bound.Goals as goal
 
-sub-t18 : tie.Need-overflow-sub-t18
-sub-t18 c = search goes_back
+pub overflow_sub-result : goal.overflow_sub-result
+overflow_sub-result c = search goes_back
 
 pub returns-then-not-is_call : goal.returns-then-not-is_call
 returns-then-not-is_call c = search (bound_no_call, not-true)

@@ -1,0 +1,24 @@
+-- `lengths::climb` meets its contract: at the head of each turn what is still to be tried gives what was to be tried.
+-- Assumes nothing.
+use Prim.Native.Nat.{◌-◌}
+use Rattle.lengths.proofs.Choice.{Climbing, climbing_none, climbing_found, climbing_over, climbing_room, climbing_more, climbing_done}
+use borrow.Author.Rules.{rules}
+use Rattle.lengths.proofs.climb.Goals as goal
+
+pub loop-i-init : goal.loop-i-init
+loop-i-init c = search climbing_none
+
+pub returns-then-now-ge44 : goal.returns-then-now-ge44
+returns-then-now-ge44 c = search climbing_found
+
+pub returns-then-now-before : goal.returns-then-now-before
+returns-then-now-before c = search climbing_over
+
+pub overflow_mul-length : goal.overflow_mul-length
+overflow_mul-length c = search climbing_room
+
+pub loop-i-preserved : goal.loop-i-preserved
+loop-i-preserved c = search climbing_more
+
+pub returns : goal.returns
+returns c = search climbing_done

@@ -1,0 +1,21 @@
+-- `lengths::short_length` meets its contract: at the head of each turn what is still to be tried gives what was to be tried.
+-- Assumes nothing.
+use Prim.Native.Nat.{◌-◌}
+use Rattle.lengths.proofs.Choice.{Trying, trying_none, trying_found, trying_room, trying_more, trying_done}
+use borrow.Author.Rules.{rules}
+use Rattle.lengths.proofs.short_length.Goals as goal
+
+pub loop-i-init : goal.loop-i-init
+loop-i-init c = search trying_none
+
+pub returns-then-pays : goal.returns-then-pays
+returns-then-pays c = search trying_found
+
+pub overflow_mul-length : goal.overflow_mul-length
+overflow_mul-length c = search trying_room
+
+pub loop-i-preserved : goal.loop-i-preserved
+loop-i-preserved c = search trying_more
+
+pub returns : goal.returns
+returns c = search trying_done
