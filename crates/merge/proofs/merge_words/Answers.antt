@@ -1,0 +1,16 @@
+-- `merge::merge_words` meets its contract: after i turns the first i merged words stand at the start of the buffer, and the rest is as it was.
+-- Assumes nothing.
+use Prim.Native.Nat.{◌-◌}
+use lib.ListN.{length}
+use Rattle.merge.proofs.Merging.{Merging, merging_none, merging_more, merging_all}
+use borrow.Author.Rules.{rules}
+use Rattle.merge.proofs.merge_words.Goals as goal
+
+pub loop-i-init : goal.loop-i-init
+loop-i-init c = search merging_none
+
+pub loop-i-preserved : goal.loop-i-preserved
+loop-i-preserved c = search merging_more
+
+pub returns : goal.returns
+returns c = search merging_all

@@ -1,0 +1,15 @@
+-- `search::lay` meets its contract: what was laid when nothing more is to be laid are the first tiles of the listing.
+-- Assumes nothing.
+use Rattle.ends.proofs.Ending.{begun, ended}
+use Rattle.search.proofs.Accepted.{first_pass}
+use borrow.Author.Rules.{rules}
+use Rattle.search.proofs.lay.Goals as goal
+
+pub tile_all-requires : goal.tile_all-requires
+tile_all-requires c = (search begun, search first_pass)
+
+pub returns : goal.returns
+returns c =     let opened = c.open-job.ensures in
+    let none = c.unlaid.ensures in
+    let laid = c.tile_all.ensures in
+    ended _ _ _ _ _ _ c.requires.0 c.requires.1.1 _ _ opened _ none _ _ _ laid
