@@ -12,4 +12,4 @@ pub returns : goal.returns
 returns c =     let opened = c.open-job.ensures in
     let none = c.unlaid.ensures in
     let laid = c.tile_all.ensures in
-    ended _ _ _ _ _ _ c.requires.0 c.requires.1.1 _ _ opened _ none _ _ _ laid
+    ended _ _ _ _ _ _ c.requires.comparable c.requires.room _ _ opened _ none _ _ _ laid

@@ -1,0 +1,19 @@
+-- `cover::pass_long` meets its contract: the walk goes on while the next tile is long enough.
+-- Assumes nothing.
+use Prim.Native.Nat.{◌-◌}
+use Rattle.cover.proofs.Walking.{Passing, passing_small, passing_more, passing_stopped, passing_ended}
+use borrow.Author.Rules.{rules}
+use borrow.Author.Tests.{leb-true, leb-false}
+use Rattle.cover.proofs.pass_long.Goals as goal
+
+pub overflow_add-words-in-loop-passed : goal.overflow_add-words-in-loop-passed
+overflow_add-words-in-loop-passed c = search passing_small
+
+pub loop-passed-preserved : goal.loop-passed-preserved
+loop-passed-preserved c = search (passing_more, leb-true)
+
+pub returns-else-least-tiles-clause-words_value : goal.returns-else-least-tiles-clause-words_value
+returns-else-least-tiles-clause-words_value c = search (passing_stopped, leb-false)
+
+pub returns-after-loop-passed-clause-words_value : goal.returns-after-loop-passed-clause-words_value
+returns-after-loop-passed-clause-words_value c = search passing_ended
