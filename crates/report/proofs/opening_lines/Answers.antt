@@ -1,0 +1,10 @@
+-- `report::opening_lines` meets its contract: its lines are written one after another.
+-- Assumes nothing.
+use Rattle.lines.specs.Text.{ascii}
+use Rattle.report.proofs.Lines.{opened}
+use borrow.Author.Rules.{rules}
+use Rattle.report.proofs.opening_lines.Goals as goal
+
+pub returns : goal.returns
+unfolding ascii
+returns c = search opened

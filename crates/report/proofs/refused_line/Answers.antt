@@ -1,0 +1,10 @@
+-- `report::refused_line` meets its contract: the line is the whole output.
+-- Assumes nothing.
+use Rattle.lines.specs.Text.{ascii}
+use Rattle.report.proofs.Lines.{refused_written}
+use borrow.Author.Rules.{rules}
+use Rattle.report.proofs.refused_line.Goals as goal
+
+pub returns : goal.returns
+unfolding ascii
+returns c = search refused_written

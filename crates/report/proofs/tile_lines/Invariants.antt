@@ -1,0 +1,12 @@
+-- `report::tile_lines` meets its contract: after i turns the lines of the first i tiles are written.
+-- Assumes nothing.
+use Prim.Native.Nat.{◌-◌}
+use Rattle.report.proofs.Tiles.{Printed, printed_none, printed_more, printed_all, line_room, first_start, second_start}
+use borrow.Author.Rules.{rules}
+use Rattle.report.proofs.tile_lines.Given as goal
+
+abbrev pub invariant-loop-i : goal.invariant-loop-i
+invariant-loop-i l = Printed l.tiles l.count l.at l.initial.out l.end l.out l.i
+
+abbrev pub decreases-loop-i : goal.decreases-loop-i
+decreases-loop-i l = l.count - l.i
