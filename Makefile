@@ -18,35 +18,35 @@ needs-check := rt
 missing = $(strip $(foreach program,$(needs-$1),$(if $(shell command -v $(program)),,$(program))))
 $(foreach goal,$(or $(MAKECMDGOALS),pair),$(if $(call missing,$(goal)),$(error make $(goal) needs what is not there: $(call missing,$(goal)))))
 
-# Runs rt and shows each crate as it is proved; where it fails, all that it printed.
+# Has rt prove a crate and what it stands on, and build it: proving CRATE WORDS.. runs `rt WORDS..` in the folder of the crate. Each crate is named
+# as its check begins; where one fails, all that rt printed is shown. What rt said of the crate stays in target/log/CRATE.say.
 define proving
-log=$$(mktemp)
-trap 'rm -f "$$log"' EXIT
 proving() {
-	if [ -z "$$(ls target/stamp 2> /dev/null)" ]; then
-		echo "Everything is proved before it is built, crate by crate. The first time this takes a few minutes."
+	mkdir -p target/log
+	say=$$PWD/target/log/$$1.say
+	if [ ! -e "crates/$$1/out" ]; then
+		echo "Everything is proved before it is built, crate by crate. The first time this takes a quarter of an hour."
 	fi
-	"$$@" 2>&1 | tee "$$log" | sed --unbuffered -nE 's/^rt: ([a-z0-9_]+ proved \([0-9]+ s\))$$/\1/p' || { cat "$$log"; exit 1; }
+	input=/dev/null
+	if [ -f "crates/$$1/stdin" ]; then input=stdin; fi
+	(cd "crates/$$1" && shift && rt "$$@" < "$$input") 2>&1 | tee "$$say" | sed --unbuffered -nE 's/^rt: chose .* for ([a-z0-9_]+)$$/\1/p' || { cat "$$say"; exit 1; }
 }
 endef
 
 # Proves and builds the pair program and all that it stands on, and runs it on the worked example.
 pair:
 	@$(proving)
-	proving rt check pair
+	proving pair run
+	mkdir -p target/bin
+	install -C -m 755 crates/pair/out/pair target/bin/pair
 	target/bin/pair < crates/pair/stdin
 
-# Proves the core and writes target/library: libsigxume.a and sigxume.h, for C, and for the Rust crate in library/. The archive is
-# made anew where the exported functions or what they stand on have changed, which rt's stamp of the crate tells.
+# Proves the core and writes target/library: libsigxume.a and sigxume.h, for C, and for the Rust crate in library/.
 library:
 	@$(proving)
-	proving rt check capi
-	if ! cmp -s target/stamp/capi target/staticlib/stamp; then
-		proving rt staticlib capi
-		cp target/stamp/capi target/staticlib/stamp
-	fi
+	proving capi lib
 	mkdir -p target/library
-	install -C -m 644 target/staticlib/libcapi.a target/library/libsigxume.a
+	install -C -m 644 crates/capi/out/libcapi.a target/library/libsigxume.a
 	install -C -m 644 c/sigxume.h target/library/sigxume.h
 	echo "target/library has libsigxume.a and sigxume.h."
 
@@ -67,14 +67,17 @@ tool: library
 	install -C -m 755 target/cargo/release/sigxume target/bin/sigxume
 	echo "The command is target/bin/sigxume."
 
-# Proves everything from nothing, then runs the tests of the library, the C example, the tool and the test program; ends with
-# the last line of `rt ci`.
+# Proves every crate from nothing and tries every must-fail edit, then runs the tests of the library, the C example, the tool and the test program;
+# ends with the last line of `rt ci`. An edit that does not fit the text any more counts as a failure too, which rt alone only tells.
 test:
 	@log=$$(mktemp)
 	trap 'rm -f "$$log"' EXIT
-	rt fmt --check
-	rt ci | tee "$$log"
-	make --no-print-directory tool example
+	rt ci 2>&1 | tee "$$log"
+	if grep -qE '^rt: ok.*, [1-9][0-9]* bad' "$$log"; then
+		echo "A must-fail edit is bad: it does not fit the text that it edits, or does not compile." >&2
+		exit 1
+	fi
+	make --no-print-directory pair tool example
 	cargo test --quiet --package sigxume
 	cargo run --quiet --profile checked --bin tests
 	tail -n 1 "$$log"
@@ -117,8 +120,8 @@ fuzz: library
 
 # The quick loop: proves what has changed.
 check:
-	@rt check
+	@rt all check
 
 # Removes all that was built.
 clean:
-	@rm -rf target
+	@rm -rf target crates/*/out

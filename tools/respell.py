@@ -4,7 +4,7 @@
 usage: tools/respell.py [--dry]      at the top of the repository, once, over the files as port.py left them
 
 A name that a file of specs/ or proofs/ declares and that begins with a small letter loses its capitals and its dashes: `boundsFrom` becomes
-`bounds_from`, `taken-is` becomes `taken_is`; `getD` in such a name becomes `get_or`. Types, modules and what Rattle makes (goals, labels, statements)
+`bounds_from`, `taken-is` becomes `taken_is`; `getD` and `get_d` in such a name become `get_or`. Types, modules and what Rattle makes (goals, labels, statements)
 keep their names, and so does every function of src/. Clauses in src/, must-fail edits and the names in the pages between backticks go with them.
 It stops and writes nothing where two names would fall together or where a new name is in use already.
 """
@@ -48,7 +48,7 @@ HERE = {
 def new_spelling(name):
     if name in OTHERWISE:
         return OTHERWISE[name]
-    name = name.replace("getD", "get_or")
+    name = re.sub(r"getD|^get_d(?=_)", "get_or", name)
     name = re.sub(r"(?<=[a-z0-9])[A-Z]", lambda m: "_" + m[0].lower(), name)
     return name.replace("-", "_").replace("′", "'")
 

@@ -6,7 +6,7 @@ use native.Mathlib.Omega.{arith}
 use mathlib.Core.Path.{◌≡◌, refl, sym, ◌∙◌, ap, subst}
 use mathlib.Core.List.{List, ◌++◌}
 use lib.ListN.{length, take, drop, get_or, set, length-drop, length-set}
-use lib.Seq.{length-take-le, get_or-drop, get_or-take, take-set-le, take-take, drop-drop, drop-set-lt, drop-set-add, get_or-set_same, get_or-set_other}
+use lib.Seq.{length-take-le, get_or-take, take-set-le, take-take, drop-drop, drop-set-lt, drop-set-add, get_or-set_other}
 use Rattle.buffer.proofs.Buffer.{rest_of_front}
 use Rattle.tiling.specs.Run.{mark}
 use Rattle.tiling.specs.Tiling.{State, lay, AllCurrent}
@@ -21,7 +21,7 @@ use Rattle.chain.proofs.Links.{chained_unlinked, length_unlinked}
 use Rattle.bounds.specs.Greatest.{Greatest}
 use Rattle.bounds.specs.declared.Job.{Job}
 use Rattle.bounds.proofs.Most.{greatest_same, greatest_part}
-use Rattle.bounds.proofs.Part.{put_length, put_front, put_part, put_back, put_before, put_after}
+use Rattle.bounds.proofs.Part.{put_length, put_front, put_part, put_back, put_before}
 
 -- ---- the sequences in the workspace
 same_state : (s u : State) → s.pattern ≡ u.pattern → s.text ≡ u.text → s ≡ u

@@ -1,6 +1,7 @@
 // The workspace of a comparison under way: the chains of free words, from which rows and windows are taken; the bounds of rows, and the
 // greatest of each block of 32 rows.
 #![tactic(auto)]
+
 ghost use Rattle.std.specs.Prelude.{◌≡◌, ◌+◌, ◌-◌, ◌*◌, ◌/◌, ◌≤◌, ◌<◌, min, max, length, take, drop, get_or, set};
 ghost use Rattle.chain.specs.First.{First, Passing};
 ghost use Rattle.chain.specs.Chain.{next_of, Ranged};

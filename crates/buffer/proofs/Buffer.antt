@@ -77,13 +77,13 @@ unfolding tabulate
 length_tabulate f zero = refl
 length_tabulate f (suc n) = simp (length-append, length_tabulate f n) (add-one n)
 
-pub get_d_tabulate : (f : ℕ → ℕ) (n i d : ℕ) → i < n → get_or (tabulate f n) i d ≡ f i
+pub get_or_tabulate : (f : ℕ → ℕ) (n i d : ℕ) → i < n → get_or (tabulate f n) i d ≡ f i
 unfolding tabulate
-get_d_tabulate f zero i d h = absurd (not-suc-le-zero h)
-get_d_tabulate f (suc n) i d h =
+get_or_tabulate f zero i d h = absurd (not-suc-le-zero h)
+get_or_tabulate f (suc n) i d h =
     ⊎_elim
     (λ e. rw e (get_or_at (tabulate f n) (f n) [] d n (length_tabulate f n)))
-    (λ l. get_or-append (tabulate f n) (f n ∷ []) d i (rw (length_tabulate f n) l) ∙ get_d_tabulate f n i d l)
+    (λ l. get_or-append (tabulate f n) (f n ∷ []) d i (rw (length_tabulate f n) l) ∙ get_or_tabulate f n i d l)
     (eq-or-lt_of_le (le_of_suc-le-suc h))
 
 pub tabulate_same : (f g : ℕ → ℕ) → ((i : ℕ) → f i ≡ g i) → (n : ℕ) → tabulate f n ≡ tabulate g n
@@ -135,7 +135,7 @@ module _ (f : ℕ → ℕ) (n : ℕ) (b₀ b : List ℕ) (k : ℕ) (r : Filling 
   filling_all z =
       let count : length (tabulate f n) ≡ n = length_tabulate f n in
       onto_words (tabulate f n) b₀ b (rw count r.room) r.same
-      (λ i l. r.filled i (omega (arith, z)) (rw count at l) ∙ sym (get_d_tabulate f n i 0 (rw count at l)))
+      (λ i l. r.filled i (omega (arith, z)) (rw count at l) ∙ sym (get_or_tabulate f n i 0 (rw count at l)))
       (λ i l. r.kept i (rw count at l))
 
 -- The part of a list from a position to its end is the list's tail.

@@ -1,5 +1,6 @@
 // Writing into a lent buffer, and the smaller of two lengths.
 #![tactic(auto)]
+
 ghost use Rattle.std.specs.Prelude.{◌≡◌, ◌≤◌, ◌<◌, min, length, set};
 ghost use Rattle.buffer.specs.Buffer.{onto};
 

@@ -1,6 +1,7 @@
 // The functions that Rust and C call. A slice is passed as a pointer and then a length. Each only hands on to the crate that
 // has the work, and none asks anything of its caller: what cannot be done is refused by its number.
 #![tactic(auto)]
+
 ghost use Rattle.std.specs.Prelude.{◌≡◌, length};
 ghost use Rattle.symbol.specs.Word.{replaced, matches};
 ghost use Rattle.symbol.specs.Sequence.{all_sound};

@@ -1,5 +1,6 @@
 // The free words of a sequence as a chain: each has an entry that says where the next one stands and where the one before.
 #![tactic(auto)]
+
 ghost use Rattle.std.specs.Prelude.{◌≡◌, ◌+◌, ◌-◌, ◌/◌, ◌≤◌, ◌<◌, length, get_or, set};
 ghost use Rattle.chain.specs.First.{First, Last};
 ghost use Rattle.chain.specs.Chain.{Free, gap_before, next_of, before_of, entry, Ranged, Chained};

@@ -1,5 +1,6 @@
 // The checks that come before a comparison. Each answers the number of its own refusal, or 0.
 #![tactic(auto)]
+
 ghost use Rattle.std.specs.Prelude.{◌≡◌, ◌/◌, ◌≤◌, min, length};
 ghost use Rattle.tiling.specs.Comparing.{sequences, minimums, settings, workspaces, room, Comparable};
 

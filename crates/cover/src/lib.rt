@@ -1,6 +1,7 @@
 // What two sequences cover at every minimum, from one comparison at minimum 1. The tiles at a greater minimum are the first ones at
 // a smaller, so that one walk along the tile buffer gives all of them.
 #![tactic(auto)]
+
 ghost use Rattle.std.specs.Prelude.{◌≡◌, ◌*◌, ◌≤◌, length};
 ghost use Rattle.buffer.specs.Buffer.{onto, tabulate};
 ghost use Rattle.tiling.specs.Listing.{covered};

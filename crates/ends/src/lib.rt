@@ -2,6 +2,7 @@
 // workspace; after it the workspace is cleared and the answer made. What lies between goes from one state of the workspace to
 // another and knows nothing of either.
 #![tactic(auto)]
+
 ghost use Rattle.std.specs.Prelude.{◌≡◌, ◌++◌, map, ◌+◌, ◌*◌, ◌≤◌, length, replicate};
 ghost use Rattle.symbol.specs.Word.{replaced};
 ghost use Rattle.buffer.specs.Buffer.{onto};

@@ -8,7 +8,7 @@ use mathlib.Core.List.{List}
 use lib.ListN.{length, get_or, drop, get_or-append}
 use borrow.Author.Tests.{le-ltb}
 use Rattle.buffer.specs.Buffer.{onto, tabulate}
-use Rattle.buffer.proofs.Buffer.{length_tabulate, get_d_tabulate}
+use Rattle.buffer.proofs.Buffer.{length_tabulate, get_or_tabulate}
 use Rattle.tiling.specs.Listing.{listing, covered}
 use Rattle.tiling.specs.Comparing.{InRange, Roomy}
 use Rattle.tiling.specs.Answer.{Compares}
@@ -26,7 +26,7 @@ entry_of : (first second es es' : List ℕ) → es' ≡ onto (tabulate (cover_at
 entry_of first second es es' e k h =
     let front = tabulate (cover_at first second) 256 in
     let n : length front ≡ 256 = length_tabulate (cover_at first second) 256 in
-    rw e (get_or-append front (drop (length front) es) 0 k (rw n h) ∙ get_d_tabulate (cover_at first second) 256 k 0 h)
+    rw e (get_or-append front (drop (length front) es) 0 k (rw n h) ∙ get_or_tabulate (cover_at first second) 256 k 0 h)
 
 module _ {first second : List ℕ} (buckets start : ℕ) {ws b es : List ℕ} {a : Compared} {ws' b' es' : List ℕ} (c : EveryMinimum first second buckets start ws b es a ws' b' es') (z : a.refusal ≡ 0) where
   number : cover_refusal first second buckets start (length ws) (length b) (length es) ≡ 0

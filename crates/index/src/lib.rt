@@ -1,6 +1,7 @@
 // The index of a pass: the hash of each free window, and for each bucket the positions of the text whose windows fall into it, in
 // rising order. Only windows of the text are linked whose hash the pattern may have. Windows are found by the chains of free words.
 #![tactic(auto)]
+
 ghost use Rattle.std.specs.Prelude.{◌≡◌, ℕ, ◌+◌, ◌-◌, ◌≤◌, ◌<◌, length, get_or, set, replicate};
 ghost use Rattle.window.specs.Hash.{bucket};
 ghost use Rattle.bounds.specs.Workspace.{Space, state, bounds_from};

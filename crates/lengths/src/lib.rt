@@ -1,6 +1,7 @@
 // The search lengths of the passes. A pass lays every tile as long as its search length, whatever that is; so they decide only
 // how long a comparison takes.
 #![tactic(auto)]
+
 ghost use Rattle.std.specs.Prelude.{◌≡◌, not, ◌≤◌, ◌<◌, min, max, eqb, length, drop, replicate};
 ghost use Rattle.symbol.specs.Word.{is_call};
 ghost use Rattle.tiling.specs.Tally.{one};

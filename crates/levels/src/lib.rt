@@ -1,5 +1,6 @@
 // The tiles of one pass: rows are searched by the index, level by level, and their tiles are laid.
 #![tactic(auto)]
+
 ghost use Rattle.std.specs.Prelude.{◌≡◌, false, ◌+◌, ◌≤◌, ◌<◌};
 ghost use Rattle.bounds.specs.Workspace.{bound};
 ghost use Rattle.bounds.specs.Blocks.{Covering, Falling};

@@ -1,18 +1,17 @@
 -- Why what is appended piece by piece is appended whole: the second piece goes just after the first, so the two are one.
 -- Assumes nothing.
-use Prim.Native.Nat.{ℕ, ◌+◌, ◌-◌, ◌≤◌}
+use Prim.Native.Nat.{ℕ, ◌+◌, ◌≤◌}
 use native.Mathlib.Omega.{arith}
 use mathlib.Core.Path.{◌≡◌, refl, sym, ◌∙◌}
-use mathlib.Core.List.{List, [], ◌++◌, append_assoc, append-nil}
-use lib.ListN.{length, take, drop, length-append, length-drop, take-append-drop, drop_of_length-le}
-use lib.Seq.{take_all, take-length, take_at, drop_at, drop-drop, length-take-le}
-use Rattle.buffer.specs.Buffer.{onto}
+use mathlib.Core.List.{List, [], ◌++◌, append_assoc}
+use lib.ListN.{length, take, drop, length-append, take-append-drop}
+use lib.Seq.{take_at, drop_at, drop-drop, length-take-le}
 use Rattle.lines.specs.Appended.{Appended}
 
 -- A text copied to the part of a buffer that is as long.
 pub appended : (at n : ℕ) (b part text : List ℕ) → at + length text ≤ length b → n ≡ length text → part ≡ text → Appended (length text) text at b (at + length text) (take at b ++ (part ++ drop n (drop at b)))
 appended at n b part text fits k e =
-    record { within = omega arith; few = omega arith; next = refl; held = rw (e, k) refl; }
+    record { within = omega arith; few = omega arith; next = refl; held = rw (e, k) refl }
 
 -- Nothing appended.
 pub nothing : (at : ℕ) (b : List ℕ) → at ≤ length b → Appended 0 [] at b at b

@@ -1,6 +1,7 @@
 // Lines of text. Each function writes into a lent buffer of bytes from a position on and answers the position after what it
 // wrote.
 #![tactic(auto)]
+
 ghost use Rattle.std.specs.Prelude.{◌≡◌, [], ◌∷◌, ◌+◌, ◌*◌, ◌≤◌, nat_abs, length};
 ghost use Rattle.lines.specs.Text.{decimal, signed, spaced, phrase, line};
 ghost use Rattle.lines.specs.Appended.{Appended};

@@ -2,6 +2,7 @@
 // in it branches on a word, so that the compiler tests several words at once. The words are those of a workspace, which are replaced
 // already, so two of them match where they are equal calls.
 #![tactic(auto)]
+
 ghost use Rattle.std.specs.Prelude.{◌≡◌, ◌≤◌, max, leb, length};
 ghost use Rattle.tiling.specs.Run.{equal_run};
 ghost use Rattle.measure.specs.Block.{block, whole_blocks, counted};

@@ -1,5 +1,6 @@
 // Merges two records of one fish, typed twice, word by word into one record.
 #![tactic(auto)]
+
 ghost use Rattle.std.specs.Prelude.{◌≡◌, ◌+◌, ◌≤◌, length};
 ghost use Rattle.buffer.specs.Buffer.{onto};
 ghost use Rattle.record.specs.Reading.{fault};

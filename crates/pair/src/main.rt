@@ -3,6 +3,7 @@
 // can say which bytes a read or a write moves. A read that fails ends the input, and a write that fails goes unreported: the
 // program ends as it does otherwise.
 #![tactic(auto)]
+
 ghost use Rattle.io.specs.Counts.{IsPrefixLen};
 
 use report::{INPUT_BYTES, REPORT_BYTES};

@@ -1,6 +1,7 @@
 // The passes of the search, at falling search lengths, each with an index of its own. Where the pattern has many kinds of words
 // one pass, at the minimum, is all.
 #![tactic(auto)]
+
 ghost use Rattle.std.specs.Prelude.{◌≡◌, false, ◌<◌, replicate};
 ghost use Rattle.tiling.specs.Tiling.{best};
 ghost use Rattle.bounds.specs.Workspace.{Space, state};

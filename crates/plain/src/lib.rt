@@ -1,5 +1,6 @@
 // The plain engine: any pair of positions may be looked at, and no hash.
 #![tactic(auto)]
+
 ghost use Rattle.std.specs.Prelude.{◌≡◌, false, ◌+◌, ◌-◌, ◌≤◌, ◌<◌, min, length, drop};
 ghost use Rattle.symbol.specs.Sequence.{Current};
 ghost use Rattle.tiling.specs.Run.{equal_run};

@@ -1,5 +1,6 @@
 // Reads and writes records: a header with id and count, a sequence, a trailer with a checksum.
 #![tactic(auto)]
+
 ghost use Rattle.std.specs.Prelude.{◌≡◌, ◌+◌, ◌^◌, ◌≤◌, ◌<◌, length, take, set, [], ◌∷◌, ◌++◌};
 ghost use Rattle.buffer.specs.Buffer.{onto};
 ghost use Rattle.record.specs.Format.{header, id_of, count_of, trailer};

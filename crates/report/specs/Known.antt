@@ -1,5 +1,5 @@
 -- Inputs of the pair program with what it prints for them, and the test that each comes out as written.
-use Rattle.std.specs.Prelude.{ℕ, ◌+◌, ◌/◌, ◌%◌, Bool, true, ◌&&◌, List, [], ◌∷◌, ◌++◌}
+use Rattle.std.specs.Prelude.{ℕ, ◌/◌, ◌%◌, Bool, true, ◌&&◌, List, [], ◌∷◌, ◌++◌}
 use Rattle.buffer.specs.Buffer.{same}
 use Rattle.tiling.specs.Known.{shorter, longer}
 use Rattle.lines.specs.Text.{ascii}

@@ -1,6 +1,7 @@
 // Rows searched by the index. A word of the pattern is compared with one of the text in `visit` and in `goes_on`, only where two
 // windows have the same hash, and nowhere else in the fast engine.
 #![tactic(auto)]
+
 ghost use Rattle.std.specs.Prelude.{◌&&◌, ◌≡◌, ◌+◌, ◌-◌, ◌≤◌, ◌<◌, eqb, ltb, drop, get_or, set};
 ghost use Rattle.tiling.specs.Tiling.{run_at};
 ghost use Rattle.measure.specs.Block.{counted};

@@ -1,5 +1,6 @@
 // The fast engine, Running Karp-Rabin: its settings, its checks, and its passes between the two ends of a comparison.
 #![tactic(auto)]
+
 ghost use Rattle.std.specs.Prelude.{◌≡◌, length};
 ghost use Rattle.tiling.specs.Comparing.{search_checks, fast_refusal, Comparable, InRange, Roomy};
 ghost use Rattle.tiling.specs.Answer.{Compares};

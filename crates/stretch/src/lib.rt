@@ -1,6 +1,7 @@
 // The free words of the pattern that further tiles may take: those in stretches of at least the minimum. A tile changes one
 // stretch, and how many they are is kept from tile to tile by a look at its two sides.
 #![tactic(auto)]
+
 ghost use Rattle.std.specs.Prelude.{◌≡◌, ◌+◌, ◌≤◌, ◌<◌, min, length};
 ghost use Rattle.tiling.specs.Run.{mark};
 ghost use Rattle.tiling.specs.Stretch.{if_long, fillable, free_first};

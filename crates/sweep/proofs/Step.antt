@@ -2,7 +2,7 @@
 -- longer and no row before has one as long: it is the best tile, and laying it keeps the sweep's invariant. Where it has none, its bound
 -- falls below the level.
 -- Assumes nothing.
-use Prim.Native.Nat.{ℕ, ◌+◌, ◌-◌, ◌*◌, ◌/◌, ◌≤◌, ◌<◌}
+use Prim.Native.Nat.{ℕ, ◌+◌, ◌*◌, ◌/◌, ◌≤◌, ◌<◌}
 use native.Mathlib.Nat.{add-mul, one-mul, mul-one, mul-le-mul_left, le-div_iff_mul-le}
 use native.Mathlib.Decide.{dec_lt, ℕ_discrete}
 use native.Mathlib.Omega.{arith}
@@ -13,7 +13,6 @@ use lib.ListN.{length, take, set, length-append, length-map}
 use lib.Seq.{get_or-set_same, get_or-set_other}
 use Rattle.symbol.specs.Word.{is_call}
 use Rattle.buffer.specs.Buffer.{onto}
-use Rattle.tiling.specs.Run.{mark}
 use Rattle.tiling.specs.Tiling.{Tile, State, run_at, best, Best, Lies, size, on_pattern, lay}
 use Rattle.tiling.specs.Listing.{tile_words, covered}
 use Rattle.tiling.specs.Stretch.{fillable}

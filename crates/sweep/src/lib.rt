@@ -1,5 +1,6 @@
 // What both engines share of a comparison under way: what is known of a row without a search, laying a tile, and where to stop.
 #![tactic(auto)]
+
 ghost use Rattle.std.specs.Prelude.{◌≡◌, true, false, ◌+◌, ◌*◌, ◌≤◌, ◌<◌, ltb, length, drop};
 ghost use Rattle.tiling.specs.Run.{run, equal_run, mark};
 ghost use Rattle.tiling.specs.Stretch.{fillable};

@@ -1,5 +1,6 @@
 // Words of 32 bits: which may stand in a sequence, which are retired, and which two match.
 #![tactic(auto)]
+
 ghost use Rattle.std.specs.Prelude.{◌≡◌};
 ghost use Rattle.symbol.specs.Word.{is_call, is_no_call, is_sound, is_retired, replaced, equal_calls, matches};
 ghost use Rattle.symbol.specs.Sequence.{all_sound, none_retired};

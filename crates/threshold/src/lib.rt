@@ -1,6 +1,7 @@
 // Whether two sequences score at least a threshold, and how many tiles it takes to tell: it stops laying them when that many words
 // are covered, or when so many no longer can be.
 #![tactic(auto)]
+
 ghost use Rattle.std.specs.Prelude.{◌≡◌, ◌+◌, ◌*◌, ◌≤◌, length, replicate};
 ghost use Rattle.tiling.specs.Tally.{one};
 ghost use Rattle.tiling.specs.Comparing.{Comparable, InRange};

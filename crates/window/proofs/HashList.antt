@@ -11,7 +11,7 @@ use Rattle.symbol.specs.Word.{replaced}
 use Rattle.symbol.specs.Sequence.{all_sound, too_long, Current}
 use Rattle.symbol.proofs.Sequence.{get_or_replaced, take_replaced, drop_replaced}
 use Rattle.buffer.specs.Buffer.{onto, tabulate}
-use Rattle.buffer.proofs.Buffer.{rest_of_front, length_tabulate, onto_more, onto_words, get_d_tabulate, tabulate_same}
+use Rattle.buffer.proofs.Buffer.{rest_of_front, length_tabulate, onto_more, onto_words, get_or_tabulate, tabulate_same}
 use Rattle.window.specs.Hash.{words_hash, hash}
 use Rattle.window.specs.HashList.{windows, hash_at, hashes_by, hashes, hash_refusal}
 use Rattle.symbol.proofs.Refusal.{clear}
@@ -24,7 +24,7 @@ pub length_hashes : (B s : ℕ) (words : List ℕ) → length (hashes_by (words_
 length_hashes B s words = length_tabulate (at_window B s words) (windows s (length words))
 
 pub get_or_hashes : (B s : ℕ) (words : List ℕ) (i : ℕ) → i + s ≤ length words → get_or (hashes_by (words_hash B) s words) i 0 ≡ words_hash B (take s (drop i words))
-get_or_hashes B s words i h = get_d_tabulate (at_window B s words) (windows s (length words)) i 0 (omega arith)
+get_or_hashes B s words i h = get_or_tabulate (at_window B s words) (windows s (length words)) i 0 (omega arith)
 
 -- ---- a window of k + 1 words and the next: they share all but the first word of the one and the last of the other
 module _ (k i : ℕ) (words : List ℕ) (fits : i + suc k < length words) where

@@ -1,5 +1,6 @@
 // The hash of each window of a sequence, by the recurrence of 001.
 #![tactic(auto)]
+
 ghost use Rattle.std.specs.Prelude.{◌≡◌, ℕ, ◌+◌, ◌-◌, ◌*◌, ◌%◌, ◌^◌, ◌<◌, ◌≤◌, List, [], ◌∷◌, ◌++◌, length, take, drop};
 ghost use Rattle.buffer.specs.Buffer.{onto};
 ghost use Rattle.window.specs.Hash.{words_hash, hash};

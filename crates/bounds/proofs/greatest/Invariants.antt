@@ -2,8 +2,7 @@
 -- Assumes nothing.
 use Prim.Native.Nat.{◌-◌}
 use lib.ListN.{length}
-use borrow.Author.Rules.{rules}
-use Rattle.bounds.proofs.Most.{Seen, seen_none, seen_more, seen_all}
+use Rattle.bounds.proofs.Most.{Seen}
 use Rattle.bounds.proofs.greatest.Given as goal
 
 abbrev pub invariant-loop-i : goal.invariant-loop-i

@@ -1,9 +1,7 @@
 -- `bounds::greatest_of_block` meets its contract: at the head of each turn `most` is the greatest of the words before i.
 -- Assumes nothing.
-use Prim.Native.Nat.{◌-◌}
-use lib.ListN.{length}
 use borrow.Author.Rules.{rules}
-use Rattle.bounds.proofs.Most.{Seen, seen_none, seen_more, seen_all}
+use Rattle.bounds.proofs.Most.{seen_none, seen_more, seen_all}
 use Rattle.bounds.proofs.greatest_of_block.Goals as goal
 
 pub loop-i-init : goal.loop-i-init

@@ -1,8 +1,6 @@
 -- `bounds::in_level` meets its contract: place, block and bound are tested in turn.
 -- Assumes nothing.
 use Rattle.bounds.proofs.Blocks.{in_level_past, in_level_far, in_level_by}
-use borrow.Author.Tests.{eqb-true, eqb-false}
-use borrow.Author.Rules.{rules}
 use Rattle.bounds.proofs.in_level.Goals as goal
 
 pub returns-then-job-q : goal.returns-then-job-q

@@ -1,7 +1,6 @@
 -- `bounds::mark_tile` meets its contract: it makes three marks, each within the workspace.
 -- Assumes nothing.
 use Rattle.bounds.proofs.Workspace.{marked_all}
-use borrow.Author.Rules.{rules}
 use Rattle.bounds.proofs.mark_tile.Goals as goal
 
 pub returns : goal.returns

@@ -1,13 +1,8 @@
 -- `bounds::next_row` meets its contract: at the head of each turn no row from `from` up to p has the level for its bound.
 -- Assumes nothing.
-use Prim.Native.Nat.{◌-◌}
-use mathlib.Core.Path.{◌≡◌}
 use borrow.Author.Tests.{eqb-true, eqb-false, not-true, not-false}
-use Rattle.chain.specs.First.{Passing}
 use Rattle.chain.proofs.First.{passing_none, first_none, first_at}
-use Rattle.bounds.specs.Workspace.{bound}
 use Rattle.bounds.proofs.Blocks.{not_level, is_level, past_row, past_less}
-use borrow.Author.Rules.{rules}
 use Rattle.bounds.proofs.next_row.Goals as goal
 
 pub loop-p-init : goal.loop-p-init

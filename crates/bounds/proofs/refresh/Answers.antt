@@ -1,7 +1,6 @@
 -- `bounds::refresh` meets its contract: the blocks from the first up to their number are all.
 -- Assumes nothing.
 use Rattle.bounds.proofs.Blocks.{refreshed_all}
-use borrow.Author.Rules.{rules}
 use Rattle.bounds.proofs.refresh.Goals as goal
 
 pub returns : goal.returns

@@ -3,10 +3,8 @@
 -- Assumes nothing.
 use Prim.Native.Nat.{◌-◌}
 use mathlib.Core.Path.{◌≡◌}
-use borrow.Author.Tests.{eqb-true, eqb-false, not-true, not-false, ltb-true}
 use Rattle.bounds.specs.Workspace.{bound}
-use Rattle.bounds.proofs.Blocks.{not_level, past_linked, Along, along_none, along_more, along_all}
-use borrow.Author.Rules.{rules}
+use Rattle.bounds.proofs.Blocks.{Along}
 use Rattle.bounds.proofs.row_along.Given as goal
 
 abbrev pub invariant-loop-q : goal.invariant-loop-q

@@ -1,7 +1,6 @@
 -- `bounds::row_linked` meets its contract: it reads the entry of the row.
 -- Assumes nothing.
 use Rattle.bounds.proofs.Workspace.{linked_row}
-use borrow.Author.Rules.{rules}
 use Rattle.bounds.proofs.row_linked.Goals as goal
 
 pub returns : goal.returns

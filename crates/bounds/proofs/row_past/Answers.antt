@@ -1,7 +1,6 @@
 -- `bounds::row_past` meets its contract: rows of a block below the level are below it.
 -- Assumes nothing.
 use Rattle.bounds.proofs.Blocks.{past_blocks}
-use borrow.Author.Rules.{rules}
 use Rattle.bounds.proofs.row_past.Goals as goal
 
 pub returns-then-wide-level : goal.returns-then-wide-level

@@ -1,7 +1,6 @@
 -- `bounds::rows_before` meets its contract: the pattern and its chain are parts of the workspace.
 -- Assumes nothing.
 use Rattle.bounds.proofs.Workspace.{rows_chained, rows_end, rows_stretch}
-use borrow.Author.Rules.{rules}
 use Rattle.bounds.proofs.rows_before.Goals as goal
 
 pub stretch_before-part-requires : goal.stretch_before-part-requires

@@ -1,7 +1,6 @@
 -- `bounds::set_block` meets its contract: the greatest bound of the rows of the block is stored.
 -- Assumes nothing.
 use Rattle.bounds.proofs.Blocks.{block_made}
-use borrow.Author.Rules.{rules}
 use Rattle.bounds.proofs.set_block.Goals as goal
 
 pub returns : goal.returns

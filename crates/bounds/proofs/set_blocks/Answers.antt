@@ -1,8 +1,6 @@
 -- `bounds::set_blocks` meets its contract: at the head of each turn the blocks before b are set anew.
 -- Assumes nothing.
-use Prim.Native.Nat.{◌-◌}
-use Rattle.bounds.proofs.Blocks.{Refreshing, refreshing_none, refreshing_more, refreshing_all}
-use borrow.Author.Rules.{rules}
+use Rattle.bounds.proofs.Blocks.{refreshing_none, refreshing_more, refreshing_all}
 use Rattle.bounds.proofs.set_blocks.Goals as goal
 
 pub loop-b-init : goal.loop-b-init

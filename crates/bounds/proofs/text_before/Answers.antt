@@ -1,7 +1,6 @@
 -- `bounds::text_before` meets its contract: the text and its chain are parts of the workspace.
 -- Assumes nothing.
 use Rattle.bounds.proofs.Workspace.{texts_chained, texts_end, texts_stretch}
-use borrow.Author.Rules.{rules}
 use Rattle.bounds.proofs.text_before.Goals as goal
 
 pub stretch_before-part-requires : goal.stretch_before-part-requires

@@ -1,9 +1,6 @@
 -- `buffer::copy` meets its contract: after i turns the first i words stand at the start of the buffer, and the rest is as it was.
 -- Assumes nothing.
-use Prim.Native.Nat.{◌-◌}
-use lib.ListN.{length}
-use Rattle.buffer.proofs.Buffer.{Copied, copied_none, copied_more, copied_all}
-use borrow.Author.Rules.{rules}
+use Rattle.buffer.proofs.Buffer.{copied_none, copied_more, copied_all}
 use Rattle.buffer.proofs.copy.Goals as goal
 
 pub loop-i-init : goal.loop-i-init

@@ -1,7 +1,6 @@
 -- `chain::before_of` meets its contract: it reads the upper half of the entry.
 -- Assumes nothing.
 use Rattle.chain.proofs.Entry.{before_is}
-use borrow.Author.Rules.{rules}
 use Rattle.chain.proofs.before_of.Goals as goal
 
 pub returns : goal.returns

@@ -1,9 +1,6 @@
 -- `chain::block_zero` meets its contract: at the head of each turn `all` says whether the first i of the last 16 words are 0.
 -- Assumes nothing.
-use Prim.Native.Nat.{◌-◌}
-use mathlib.Core.Path.{◌≡◌}
-use lib.ListN.{length}
-use Rattle.chain.proofs.Stretches.{Looked, looked_none, looked_more, looked_all}
+use Rattle.chain.proofs.Stretches.{looked_none, looked_more, looked_all}
 use borrow.Author.Rules.{rules}
 use Rattle.chain.proofs.block_zero.Goals as goal
 

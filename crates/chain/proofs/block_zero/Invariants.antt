@@ -3,8 +3,7 @@
 use Prim.Native.Nat.{◌-◌}
 use mathlib.Core.Path.{◌≡◌}
 use lib.ListN.{length}
-use Rattle.chain.proofs.Stretches.{Looked, looked_none, looked_more, looked_all}
-use borrow.Author.Rules.{rules}
+use Rattle.chain.proofs.Stretches.{Looked}
 use Rattle.chain.proofs.block_zero.Given as goal
 
 abbrev pub invariant-loop-i : goal.invariant-loop-i

@@ -1,8 +1,7 @@
 -- `chain::free_before` meets its contract: at the head of each turn no word from `end` up to `to` is free. A word that is not free leads back past
 -- words that are not free either.
 -- Assumes nothing.
-use Rattle.chain.specs.Chain.{Free}
-use Rattle.chain.proofs.Last.{Returning, returning_none, returning_room, last_none}
+use Rattle.chain.proofs.Last.{returning_none, returning_room, last_none}
 use Rattle.chain.proofs.Stretches.{chain_back, chain_back_less, chain_back_room, chain_last}
 use borrow.Author.Rules.{rules}
 use Rattle.chain.proofs.free_before.Goals as goal

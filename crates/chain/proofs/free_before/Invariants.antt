@@ -2,9 +2,7 @@
 -- words that are not free either.
 -- Assumes nothing.
 use Rattle.chain.specs.Chain.{Free}
-use Rattle.chain.proofs.Last.{Returning, returning_none, returning_room, last_none}
-use Rattle.chain.proofs.Stretches.{chain_back, chain_back_less, chain_back_room, chain_last}
-use borrow.Author.Rules.{rules}
+use Rattle.chain.proofs.Last.{Returning}
 use Rattle.chain.proofs.free_before.Given as goal
 
 abbrev pub invariant-loop-end : goal.invariant-loop-end

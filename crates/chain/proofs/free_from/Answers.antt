@@ -1,10 +1,6 @@
 -- `chain::free_from` meets its contract: at the head of each turn no word from `from` up to `at` is free. A word that is not free leads past words
 -- that are not free either.
 -- Assumes nothing.
-use Prim.Native.Nat.{◌-◌}
-use lib.ListN.{length}
-use Rattle.chain.specs.Chain.{Free}
-use Rattle.chain.specs.First.{Passing}
 use Rattle.chain.proofs.First.{passing_none, first_none}
 use Rattle.chain.proofs.Stretches.{chain_on, chain_on_less, chain_found}
 use borrow.Author.Rules.{rules}

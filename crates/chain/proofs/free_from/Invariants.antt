@@ -5,9 +5,6 @@ use Prim.Native.Nat.{◌-◌}
 use lib.ListN.{length}
 use Rattle.chain.specs.Chain.{Free}
 use Rattle.chain.specs.First.{Passing}
-use Rattle.chain.proofs.First.{passing_none, first_none}
-use Rattle.chain.proofs.Stretches.{chain_on, chain_on_less, chain_found}
-use borrow.Author.Rules.{rules}
 use Rattle.chain.proofs.free_from.Given as goal
 
 abbrev pub invariant-loop-at : goal.invariant-loop-at

@@ -1,7 +1,6 @@
 -- `chain::lead` meets its contract: it sets the entries one after another.
 -- Assumes nothing.
 use Rattle.chain.proofs.Unlinking.{led_out_is}
-use borrow.Author.Rules.{rules}
 use Rattle.chain.proofs.lead.Goals as goal
 
 pub returns : goal.returns

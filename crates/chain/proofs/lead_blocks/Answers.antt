@@ -1,10 +1,6 @@
 -- `chain::lead_blocks` meets its contract: after i turns the first words of i blocks lead out.
 -- Assumes nothing.
-use Prim.Native.Nat.{◌-◌, ◌/◌, ◌≤◌}
-use mathlib.Core.Path.{◌≡◌}
-use lib.ListN.{length}
-use Rattle.chain.specs.Unlinked.{led}
-use Rattle.chain.proofs.Unlinking.{Leading, leading_none, leading_more, leading_all, block_last, block_above}
+use Rattle.chain.proofs.Unlinking.{leading_none, leading_more, leading_all, block_last, block_above}
 use borrow.Author.Rules.{rules}
 use Rattle.chain.proofs.lead_blocks.Goals as goal
 

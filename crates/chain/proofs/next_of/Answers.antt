@@ -1,7 +1,6 @@
 -- `chain::next_of` meets its contract: it reads the lower half of the entry.
 -- Assumes nothing.
 use Rattle.chain.proofs.Entry.{next_is}
-use borrow.Author.Rules.{rules}
 use Rattle.chain.proofs.next_of.Goals as goal
 
 pub returns : goal.returns

@@ -1,7 +1,6 @@
 -- `chain::set_entry` meets its contract: each half has room for its number.
 -- Assumes nothing.
 use Rattle.chain.proofs.Entry.{entry_is}
-use borrow.Author.Rules.{rules}
 use Rattle.chain.proofs.set_entry.Goals as goal
 
 pub returns : goal.returns

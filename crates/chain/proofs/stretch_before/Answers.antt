@@ -2,7 +2,6 @@
 -- before another. The first of them does not have its neighbour for the previous one, so that neighbour is not free.
 -- Assumes nothing.
 use Rattle.chain.proofs.Stretches.{stretch_none, stretch_joined}
-use borrow.Author.Rules.{rules}
 use Rattle.chain.proofs.stretch_before.Goals as goal
 
 pub returns-then-to-eq0 : goal.returns-then-to-eq0

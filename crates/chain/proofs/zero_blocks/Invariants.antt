@@ -1,8 +1,6 @@
 -- `chain::zero_blocks` meets its contract: at the head of each turn all words from n on are 0, and the block before them is looked at as a whole.
 -- Assumes nothing.
 use Rattle.chain.specs.Stretches.{ZeroTail}
-use Rattle.chain.proofs.Stretches.{tail_none, tail_block, block_part}
-use borrow.Author.Rules.{rules}
 use Rattle.chain.proofs.zero_blocks.Given as goal
 
 abbrev pub invariant-loop-n : goal.invariant-loop-n

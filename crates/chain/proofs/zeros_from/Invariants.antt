@@ -1,8 +1,6 @@
 -- `chain::zeros_from` meets its contract: at the head of each turn all words from n on are 0. The loop ends at a word that is not, or with the first.
 -- Assumes nothing.
 use Rattle.chain.specs.Stretches.{ZeroTail}
-use Rattle.chain.proofs.Stretches.{tail_word, zeros_stop, zeros_all}
-use borrow.Author.Rules.{rules}
 use Rattle.chain.proofs.zeros_from.Given as goal
 
 abbrev pub invariant-loop-n : goal.invariant-loop-n

@@ -1,7 +1,6 @@
 -- `checks::pair_refusal` meets its contract: a cause of the sequences stops the chain, and then the minimum decides.
 -- Assumes nothing.
 use Rattle.tiling.proofs.Comparing.{sequences_refused, minimum_decides}
-use borrow.Author.Rules.{rules}
 use Rattle.checks.proofs.pair_refusal.Goals as goal
 
 pub returns-then-of_sequences-ne0 : goal.returns-then-of_sequences-ne0

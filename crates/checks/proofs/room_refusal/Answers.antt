@@ -1,7 +1,6 @@
 -- `checks::room_refusal` meets its contract: a workspace that is too short stops the chain, and then the tile buffer decides.
 -- Assumes nothing.
 use Rattle.checks.proofs.Room.{workspace_refused, tiles_refused, tiles_fine}
-use borrow.Author.Rules.{rules}
 use Rattle.checks.proofs.room_refusal.Goals as goal
 
 pub returns-then-of_workspace-ne0 : goal.returns-then-of_workspace-ne0

@@ -1,7 +1,6 @@
 -- `checks::sequences_refusal` meets its contract: each return comes after the tests of the earlier causes, in the order of the table.
 -- Assumes nothing.
 use Rattle.symbol.proofs.Refusal.{causes}
-use borrow.Author.Rules.{rules}
 use Rattle.checks.proofs.sequences_refusal.Goals as goal
 
 pub returns-then-first-gt2048 : goal.returns-then-first-gt2048

@@ -1,7 +1,6 @@
 -- `checks::workspace_refusal` meets its contract: it is the one test.
 -- Assumes nothing.
 use Rattle.symbol.proofs.Refusal.{causes}
-use borrow.Author.Rules.{rules}
 use Rattle.checks.proofs.workspace_refusal.Goals as goal
 
 pub returns-then-workspace-first : goal.returns-then-workspace-first

@@ -17,10 +17,10 @@ pub returns-then-refusal-ne0 : goal.returns-then-refusal-ne0
 returns-then-refusal-ne0 c = search every_refused
 
 pub compare_accepted-answer-requires : goal.compare_accepted-answer-requires
-compare_accepted-answer-requires c = let k = accepted_here (goal.at.compare_accepted-answer-requires c).Else-refusal-ne0 in record { comparable = k.can; in_range = k.set; roomy = k.room; }
+compare_accepted-answer-requires c = let k = accepted_here (goal.at.compare_accepted-answer-requires c).Else-refusal-ne0 in record { comparable = k.can; in_range = k.set; roomy = k.room }
 
 pub fill-requires : goal.fill-requires
-fill-requires c =     let k = accepted_here (goal.at.fill-requires c).Else-refusal-ne0 in
+fill-requires c = let k = accepted_here (goal.at.fill-requires c).Else-refusal-ne0 in
     (search (tiles_whole, k, rules), search (tiles_few, k), search (k, rules))
 
 pub returns : goal.returns

@@ -1,7 +1,6 @@
 -- `cover::fill` meets its contract: the entries from the loop's minimum on stand in the buffer.
 -- Assumes nothing.
-use Rattle.cover.proofs.Entries.{Entered, entered_none, entered_room, entered_more, entered_all}
-use borrow.Author.Rules.{rules}
+use Rattle.cover.proofs.Entries.{entered_none, entered_room, entered_more, entered_all}
 use Rattle.cover.proofs.fill.Goals as goal
 
 pub loop-minimum-init : goal.loop-minimum-init

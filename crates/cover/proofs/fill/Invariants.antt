@@ -1,7 +1,6 @@
 -- `cover::fill` meets its contract: the entries from the loop's minimum on stand in the buffer.
 -- Assumes nothing.
-use Rattle.cover.proofs.Entries.{Entered, entered_none, entered_room, entered_more, entered_all}
-use borrow.Author.Rules.{rules}
+use Rattle.cover.proofs.Entries.{Entered}
 use Rattle.cover.proofs.fill.Given as goal
 
 abbrev pub invariant-loop-minimum : goal.invariant-loop-minimum

@@ -1,8 +1,6 @@
 -- `cover::pass_long` meets its contract: the walk goes on while the next tile is long enough.
 -- Assumes nothing.
-use Prim.Native.Nat.{◌-◌}
-use Rattle.cover.proofs.Walking.{Passing, passing_small, passing_more, passing_stopped, passing_ended}
-use borrow.Author.Rules.{rules}
+use Rattle.cover.proofs.Walking.{passing_small, passing_more, passing_stopped, passing_ended}
 use borrow.Author.Tests.{leb-true, leb-false}
 use Rattle.cover.proofs.pass_long.Goals as goal
 

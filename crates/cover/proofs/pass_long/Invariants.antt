@@ -1,9 +1,7 @@
 -- `cover::pass_long` meets its contract: the walk goes on while the next tile is long enough.
 -- Assumes nothing.
 use Prim.Native.Nat.{◌-◌}
-use Rattle.cover.proofs.Walking.{Passing, passing_small, passing_more, passing_stopped, passing_ended}
-use borrow.Author.Rules.{rules}
-use borrow.Author.Tests.{leb-true, leb-false}
+use Rattle.cover.proofs.Walking.{Passing}
 use Rattle.cover.proofs.pass_long.Given as goal
 
 abbrev pub invariant-loop-passed : goal.invariant-loop-passed

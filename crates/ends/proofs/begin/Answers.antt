@@ -1,7 +1,6 @@
 -- `ends::begin` meets its contract: the words are copied, and the entries of the chains are 0.
 -- Assumes nothing.
 use Rattle.ends.proofs.Opening.{begun_is}
-use borrow.Author.Rules.{rules}
 use Rattle.ends.proofs.begin.Goals as goal
 
 pub returns : goal.returns

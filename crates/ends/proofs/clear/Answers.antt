@@ -1,7 +1,6 @@
 -- `ends::clear` meets its contract: every word is marked.
 -- Assumes nothing.
 use Rattle.ends.proofs.Closing.{cleared_all}
-use borrow.Author.Rules.{rules}
 use Rattle.ends.proofs.clear.Goals as goal
 
 pub returns : goal.returns

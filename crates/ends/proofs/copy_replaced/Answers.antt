@@ -1,13 +1,7 @@
 -- `ends::copy_replaced` meets its contract: words without a retired call are copied; of others the first i, replaced, stand in the buffer at the head of
 -- each turn.
 -- Assumes nothing.
-use Prim.Native.Nat.{◌-◌}
-use mathlib.Core.List.{map}
-use lib.ListN.{length}
-use Rattle.symbol.specs.Word.{replaced}
-use Rattle.buffer.proofs.Buffer.{Copied}
 use Rattle.ends.proofs.Opening.{copied_same, copied_start, copied_word, copied_whole}
-use borrow.Author.Rules.{rules}
 use Rattle.ends.proofs.copy_replaced.Goals as goal
 
 pub returns-then-none_retired : goal.returns-then-none_retired

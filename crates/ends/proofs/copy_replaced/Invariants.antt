@@ -6,8 +6,6 @@ use mathlib.Core.List.{map}
 use lib.ListN.{length}
 use Rattle.symbol.specs.Word.{replaced}
 use Rattle.buffer.proofs.Buffer.{Copied}
-use Rattle.ends.proofs.Opening.{copied_same, copied_start, copied_word, copied_whole}
-use borrow.Author.Rules.{rules}
 use Rattle.ends.proofs.copy_replaced.Given as goal
 
 abbrev pub invariant-loop-i : goal.invariant-loop-i

@@ -1,10 +1,7 @@
 -- `ends::first_is_pattern` meets its contract: the lengths choose where they differ; else the words before i are equal, at first those of
 -- the run that both begin with, and the first that differ choose.
 -- Assumes nothing.
-use Prim.Native.Nat.{◌-◌}
-use lib.ListN.{length}
-use Rattle.ends.proofs.Choosing.{Alike, lengths_choose, alike_more, word_chooses, none_differs, alike_run}
-use borrow.Author.Rules.{rules}
+use Rattle.ends.proofs.Choosing.{lengths_choose, alike_more, word_chooses, none_differs, alike_run}
 use Rattle.ends.proofs.first_is_pattern.Goals as goal
 
 pub returns-then-first-second : goal.returns-then-first-second

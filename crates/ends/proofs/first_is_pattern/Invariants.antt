@@ -3,8 +3,7 @@
 -- Assumes nothing.
 use Prim.Native.Nat.{◌-◌}
 use lib.ListN.{length}
-use Rattle.ends.proofs.Choosing.{Alike, lengths_choose, alike_more, word_chooses, none_differs, alike_run}
-use borrow.Author.Rules.{rules}
+use Rattle.ends.proofs.Choosing.{Alike}
 use Rattle.ends.proofs.first_is_pattern.Given as goal
 
 abbrev pub invariant-loop-i : goal.invariant-loop-i

@@ -1,7 +1,6 @@
 -- `ends::open` meets its contract: by which sequence is the pattern, it stands first in the workspace and gives the job its lengths.
 -- Assumes nothing.
 use Rattle.ends.proofs.Opening.{opened_first, opened_second}
-use borrow.Author.Rules.{rules}
 use Rattle.ends.proofs.open.Goals as goal
 
 pub returns-then-first_is_pattern : goal.returns-then-first_is_pattern

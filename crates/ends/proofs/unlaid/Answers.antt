@@ -1,7 +1,6 @@
 -- `ends::unlaid` meets its contract: all words are free.
 -- Assumes nothing.
 use Rattle.ends.proofs.Opening.{unlaid_is}
-use borrow.Author.Rules.{rules}
 use Rattle.ends.proofs.unlaid.Goals as goal
 
 pub returns : goal.returns

@@ -1,7 +1,6 @@
 -- `index::enter` meets its contract: one store in each array.
 -- Assumes nothing.
 use Rattle.index.proofs.Bucket.{entered_at, entered_known}
-use borrow.Author.Rules.{rules}
 use Rattle.index.proofs.enter.Goals as goal
 
 pub returns-clause-filter_after : goal.returns-clause-filter_after

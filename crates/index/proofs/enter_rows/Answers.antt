@@ -2,7 +2,6 @@
 -- free windows from its start on.
 -- Assumes nothing.
 use Rattle.index.proofs.Rows.{rows_state, rows_space, rows_room, rows_free, rows_raised, rows_entered}
-use borrow.Author.Rules.{rules}
 use Rattle.index.proofs.enter_rows.Goals as goal
 
 pub raise_rows-requires : goal.raise_rows-requires

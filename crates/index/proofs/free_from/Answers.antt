@@ -2,7 +2,6 @@
 -- Assumes nothing.
 use borrow.Author.Tests.{not-true, not-false}
 use Rattle.index.proofs.Free.{free_fits, free_more, free_stop}
-use borrow.Author.Rules.{rules}
 use Rattle.index.proofs.free_from.Goals as goal
 
 pub returns-then-not-is_call : goal.returns-then-not-is_call

@@ -2,7 +2,6 @@
 -- Assumes nothing.
 use mathlib.Core.Path.{refl}
 use Rattle.index.proofs.Rows.{rows_short}
-use borrow.Author.Rules.{rules}
 use Rattle.index.proofs.hash_row_stretch.Goals as goal
 
 pub returns-then-part-pass-clause-ws_unchanged : goal.returns-then-part-pass-clause-ws_unchanged

@@ -1,8 +1,7 @@
 -- `index::hash_rows` meets its contract: at the head of each turn the free windows from the end of the stretch on are hashed and their entries set, and
 -- between two stretches no window is free.
 -- Assumes nothing.
-use Rattle.index.proofs.Rows.{RowWalk, row_walk_first, row_walk_here, row_walk_end, row_walk_next, row_walk_all}
-use borrow.Author.Rules.{rules}
+use Rattle.index.proofs.Rows.{RowWalk}
 use Rattle.index.proofs.hash_rows.Given as goal
 
 abbrev pub invariant-loop-part : goal.invariant-loop-part

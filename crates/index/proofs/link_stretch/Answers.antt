@@ -1,7 +1,7 @@
 -- `index::link_stretch` meets its contract: at the head of each turn the windows from t on are linked, each head is the first linked window of its
 -- bucket from t on, and free counts the calls from t on.
 -- Assumes nothing.
-use Rattle.index.proofs.Linking.{Backward, backward_none, backward_inside, backward_free, backward_more, backward_all}
+use Rattle.index.proofs.Linking.{backward_none, backward_inside, backward_free, backward_more, backward_all}
 use borrow.Author.Rules.{rules}
 use Rattle.index.proofs.link_stretch.Goals as goal
 

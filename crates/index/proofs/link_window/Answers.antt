@@ -2,7 +2,6 @@
 -- head of its bucket.
 -- Assumes nothing.
 use Rattle.index.proofs.Linking.{entered_busy, entered_unknown, entered_new}
-use borrow.Author.Rules.{rules}
 use Rattle.index.proofs.link_window.Goals as goal
 
 pub returns-then-free-pass : goal.returns-then-free-pass

@@ -1,8 +1,7 @@
 -- `index::link_windows` meets its contract: at the head of each turn the text's windows from the end of the stretch on are linked, and between two stretches
 -- none is free.
 -- Assumes nothing.
-use Rattle.index.proofs.Texts.{TextWalk, text_walk_first, text_walk_here, text_walk_end, text_walk_next, text_walk_all}
-use borrow.Author.Rules.{rules}
+use Rattle.index.proofs.Texts.{TextWalk}
 use Rattle.index.proofs.link_windows.Given as goal
 
 abbrev pub invariant-loop-part : goal.invariant-loop-part

@@ -1,6 +1,6 @@
 -- `index::raise_rows` meets its contract: at the head of each turn the entries of the free windows from p on are set.
 -- Assumes nothing.
-use Rattle.index.proofs.Rows.{Raising, raising_none, raising_inside, raising_more, raising_all}
+use Rattle.index.proofs.Rows.{raising_none, raising_inside, raising_more, raising_all}
 use borrow.Author.Rules.{rules}
 use Rattle.index.proofs.raise_rows.Goals as goal
 

@@ -1,8 +1,6 @@
 -- `lengths::climb` meets its contract: at the head of each turn what is still to be tried gives what was to be tried.
 -- Assumes nothing.
-use Prim.Native.Nat.{◌-◌}
-use Rattle.lengths.proofs.Choice.{Climbing, climbing_none, climbing_found, climbing_over, climbing_room, climbing_more, climbing_done}
-use borrow.Author.Rules.{rules}
+use Rattle.lengths.proofs.Choice.{climbing_none, climbing_found, climbing_over, climbing_room, climbing_more, climbing_done}
 use Rattle.lengths.proofs.climb.Goals as goal
 
 pub loop-i-init : goal.loop-i-init

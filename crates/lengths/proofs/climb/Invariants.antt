@@ -1,8 +1,7 @@
 -- `lengths::climb` meets its contract: at the head of each turn what is still to be tried gives what was to be tried.
 -- Assumes nothing.
 use Prim.Native.Nat.{◌-◌}
-use Rattle.lengths.proofs.Choice.{Climbing, climbing_none, climbing_found, climbing_over, climbing_room, climbing_more, climbing_done}
-use borrow.Author.Rules.{rules}
+use Rattle.lengths.proofs.Choice.{Climbing}
 use Rattle.lengths.proofs.climb.Given as goal
 
 abbrev pub invariant-loop-i : goal.invariant-loop-i

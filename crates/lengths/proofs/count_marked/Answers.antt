@@ -1,8 +1,6 @@
 -- `lengths::count_marked` meets its contract: at the head of each turn those before i are counted.
 -- Assumes nothing.
-use Prim.Native.Nat.{◌-◌}
-use Rattle.lengths.proofs.Samples.{Counting, counting_none, counting_fits, counting_more, counting_all}
-use borrow.Author.Rules.{rules}
+use Rattle.lengths.proofs.Samples.{counting_none, counting_fits, counting_more, counting_all}
 use Rattle.lengths.proofs.count_marked.Goals as goal
 
 pub loop-i-init : goal.loop-i-init

@@ -1,7 +1,6 @@
 -- `lengths::differing` meets its contract: what is marked is counted.
 -- Assumes nothing.
 use Rattle.lengths.proofs.Samples.{different_none, different_counted}
-use borrow.Author.Rules.{rules}
 use Rattle.lengths.proofs.differing.Goals as goal
 
 pub returns-then-words-s : goal.returns-then-words-s

@@ -1,7 +1,6 @@
 -- `lengths::first_length` meets its contract: the part is the pattern.
 -- Assumes nothing.
 use Rattle.lengths.proofs.Choice.{first_short, first_many, first_longer}
-use borrow.Author.Rules.{rules}
 use Rattle.lengths.proofs.first_length.Goals as goal
 
 pub returns-then-at_once : goal.returns-then-at_once

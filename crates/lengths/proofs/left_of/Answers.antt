@@ -1,7 +1,6 @@
 -- `lengths::left_of` meets its contract: nothing is asked where no pass is to come.
 -- Assumes nothing.
 use Rattle.lengths.proofs.Choice.{left_none, left_longest}
-use borrow.Author.Rules.{rules}
 use Rattle.lengths.proofs.left_of.Goals as goal
 
 pub returns-then-pass : goal.returns-then-pass

@@ -1,7 +1,6 @@
 -- `lengths::longer_length` meets its contract: each of its ways out is a case of the definition.
 -- Assumes nothing.
 use Rattle.lengths.proofs.Choice.{longer_short, longer_none, longer_climbed}
-use borrow.Author.Rules.{rules}
 use Rattle.lengths.proofs.longer_length.Goals as goal
 
 pub returns-then-short-gt0 : goal.returns-then-short-gt0

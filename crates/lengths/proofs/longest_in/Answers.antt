@@ -1,6 +1,6 @@
 -- `lengths::longest_in` meets its contract: at the head of each turn the stretch from i on and the longest one are known.
 -- Assumes nothing.
-use Rattle.lengths.proofs.Stretches.{Stretching, stretching_none, stretching_more, stretching_fits, stretching_inside, stretching_all}
+use Rattle.lengths.proofs.Stretches.{stretching_none, stretching_more, stretching_fits, stretching_inside, stretching_all}
 use borrow.Author.Rules.{rules}
 use Rattle.lengths.proofs.longest_in.Goals as goal
 

@@ -1,8 +1,7 @@
 -- `lengths::longest_stretch` meets its contract: at the head of each turn the longest stretch of calls after the stretch of free words is known; words that are covered
 -- are no calls.
 -- Assumes nothing.
-use Rattle.lengths.proofs.Stretches.{Longest, longest_less, longest_all, part_none, part_short, part_inside, part_edge, part_here, part_more, part_ordered, part_within}
-use Rattle.bounds.specs.Workspace.{state}
+use Rattle.lengths.proofs.Stretches.{longest_less, longest_all, part_none, part_short, part_inside, part_edge, part_here, part_more, part_ordered, part_within}
 use borrow.Author.Rules.{rules}
 use Rattle.lengths.proofs.longest_stretch.Goals as goal
 

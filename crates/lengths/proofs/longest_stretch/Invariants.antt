@@ -1,9 +1,8 @@
 -- `lengths::longest_stretch` meets its contract: at the head of each turn the longest stretch of calls after the stretch of free words is known; words that are covered
 -- are no calls.
 -- Assumes nothing.
-use Rattle.lengths.proofs.Stretches.{Longest, longest_less, longest_all, part_none, part_short, part_inside, part_edge, part_here, part_more, part_ordered, part_within}
+use Rattle.lengths.proofs.Stretches.{Longest}
 use Rattle.bounds.specs.Workspace.{state}
-use borrow.Author.Rules.{rules}
 use Rattle.lengths.proofs.longest_stretch.Given as goal
 
 abbrev pub invariant-loop-part : goal.invariant-loop-part

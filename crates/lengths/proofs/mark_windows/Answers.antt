@@ -1,7 +1,6 @@
 -- `lengths::mark_windows` meets its contract: at the head of each turn the places of the windows from the i-th on are marked.
 -- Assumes nothing.
-use Rattle.lengths.proofs.Samples.{Marking, marking_none, marking_room, marking_end, marking_bytes, marking_part, marking_more, marking_all}
-use borrow.Author.Rules.{rules}
+use Rattle.lengths.proofs.Samples.{marking_none, marking_room, marking_end, marking_bytes, marking_part, marking_more, marking_all}
 use Rattle.lengths.proofs.mark_windows.Goals as goal
 
 pub loop-i-init : goal.loop-i-init

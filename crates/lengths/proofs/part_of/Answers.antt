@@ -1,7 +1,6 @@
 -- `lengths::part_of` meets its contract.
 -- Assumes nothing.
 use Rattle.lengths.proofs.Choice.{part_quarter, part_half}
-use borrow.Author.Rules.{rules}
 use Rattle.lengths.proofs.part_of.Goals as goal
 
 pub returns-then-n-covered : goal.returns-then-n-covered

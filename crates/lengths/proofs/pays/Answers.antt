@@ -1,7 +1,6 @@
 -- `lengths::pays` meets its contract, by its two tests.
 -- Assumes nothing.
 use Rattle.lengths.proofs.Choice.{pays_not, pays_by}
-use borrow.Author.Rules.{rules}
 use Rattle.lengths.proofs.pays.Goals as goal
 
 pub returns-then-s-gt8 : goal.returns-then-s-gt8

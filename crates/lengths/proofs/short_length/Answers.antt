@@ -1,8 +1,6 @@
 -- `lengths::short_length` meets its contract: at the head of each turn what is still to be tried gives what was to be tried.
 -- Assumes nothing.
-use Prim.Native.Nat.{◌-◌}
-use Rattle.lengths.proofs.Choice.{Trying, trying_none, trying_found, trying_room, trying_more, trying_done}
-use borrow.Author.Rules.{rules}
+use Rattle.lengths.proofs.Choice.{trying_none, trying_found, trying_room, trying_more, trying_done}
 use Rattle.lengths.proofs.short_length.Goals as goal
 
 pub loop-i-init : goal.loop-i-init

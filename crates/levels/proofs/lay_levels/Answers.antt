@@ -2,7 +2,7 @@
 -- Assumes nothing.
 use borrow.Author.Tests.{not-true, not-false}
 use Rattle.sweep.proofs.Turn.{few_covered, few_fillable, going_on}
-use Rattle.levels.proofs.Pass.{Lowering, lowering_none, lowering_sweep, lowering_more, lowering_less, lowering_done, lowering_goal}
+use Rattle.levels.proofs.Pass.{lowering_none, lowering_sweep, lowering_more, lowering_less, lowering_done, lowering_goal}
 use borrow.Author.Rules.{rules}
 use Rattle.levels.proofs.lay_levels.Goals as goal
 

@@ -1,9 +1,6 @@
 -- `levels::lay_levels` meets its contract: at the head of each turn no bound exceeds the level, and a sweep leaves every bound below it.
 -- Assumes nothing.
-use borrow.Author.Tests.{not-true, not-false}
-use Rattle.sweep.proofs.Turn.{few_covered, few_fillable, going_on}
-use Rattle.levels.proofs.Pass.{Lowering, lowering_none, lowering_sweep, lowering_more, lowering_less, lowering_done, lowering_goal}
-use borrow.Author.Rules.{rules}
+use Rattle.levels.proofs.Pass.{Lowering}
 use Rattle.levels.proofs.lay_levels.Given as goal
 
 abbrev pub invariant-loop-level : goal.invariant-loop-level

@@ -1,11 +1,7 @@
 -- `levels::sweep_rows` meets its contract: each turn takes the sweep over one row whose bound is the level, and over those up to the next.
 -- Assumes nothing.
 use Prim.Native.Nat.{◌-◌}
-use borrow.Author.Tests.{not-true, not-false}
-use Rattle.chain.proofs.First.{first_rises}
-use Rattle.sweep.proofs.Turn.{few_covered, few_fillable, going_on, swept_all, swept_goal}
-use Rattle.levels.proofs.Pass.{Turning, turning_none, turning_row, turning_long, turning_some, turning_more}
-use borrow.Author.Rules.{rules}
+use Rattle.levels.proofs.Pass.{Turning}
 use Rattle.levels.proofs.sweep_rows.Given as goal
 
 abbrev pub invariant-loop-p : goal.invariant-loop-p

@@ -2,7 +2,6 @@
 -- Assumes nothing.
 use Rattle.lines.proofs.Appended.{both}
 use Rattle.lines.specs.Text.{ascii}
-use borrow.Author.Rules.{rules}
 use Rattle.lines.proofs.line.Goals as goal
 
 pub returns : goal.returns

@@ -1,7 +1,6 @@
 -- `lines::magnitude` meets its contract: below zero the number above is negated, which fits, and one is added; otherwise nothing changes.
 -- Assumes nothing.
 use Rattle.lines.proofs.Size.{Turned, below, castable, one_fits, size_is, not_below}
-use borrow.Author.Rules.{rules}
 use Rattle.lines.proofs.magnitude.Goals.{Then-z-lt0}
 use Rattle.lines.proofs.magnitude.Goals as goal
 

@@ -1,7 +1,6 @@
 -- `lines::phrase` meets its contract: the numbers follow the word.
 -- Assumes nothing.
 use Rattle.lines.proofs.Appended.{both}
-use borrow.Author.Rules.{rules}
 use Rattle.lines.proofs.phrase.Goals as goal
 
 pub returns : goal.returns

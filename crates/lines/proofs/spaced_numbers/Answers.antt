@@ -1,9 +1,6 @@
 -- `lines::spaced_numbers` meets its contract: after i turns the first i numbers are written.
 -- Assumes nothing.
-use Prim.Native.Nat.{◌-◌}
-use lib.ListN.{length}
-use Rattle.lines.proofs.Spaced.{Spaced, spaced_none, spaced_more, spaced_all}
-use borrow.Author.Rules.{rules}
+use Rattle.lines.proofs.Spaced.{spaced_none, spaced_more, spaced_all}
 use Rattle.lines.proofs.spaced_numbers.Goals as goal
 
 pub loop-i-init : goal.loop-i-init

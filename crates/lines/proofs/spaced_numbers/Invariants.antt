@@ -2,8 +2,7 @@
 -- Assumes nothing.
 use Prim.Native.Nat.{◌-◌}
 use lib.ListN.{length}
-use Rattle.lines.proofs.Spaced.{Spaced, spaced_none, spaced_more, spaced_all}
-use borrow.Author.Rules.{rules}
+use Rattle.lines.proofs.Spaced.{Spaced}
 use Rattle.lines.proofs.spaced_numbers.Given as goal
 
 abbrev pub invariant-loop-i : goal.invariant-loop-i

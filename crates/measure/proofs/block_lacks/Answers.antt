@@ -1,11 +1,7 @@
 -- `measure::block_lacks` meets its contract: at the head of each turn `all` says whether a and b stand side by side at none of the first i positions.
 -- Assumes nothing.
-use Prim.Native.Nat.{◌-◌}
-use Rattle.measure.specs.Before.{before}
-use Rattle.measure.specs.Block.{block}
-use Rattle.measure.proofs.Blocks.{Tested, tested_none, tested_all}
+use Rattle.measure.proofs.Blocks.{tested_none, tested_all}
 use Rattle.measure.proofs.Pairs.{pairs_tested}
-use borrow.Author.Rules.{rules}
 use Rattle.measure.proofs.block_lacks.Goals as goal
 
 pub loop-i-init : goal.loop-i-init

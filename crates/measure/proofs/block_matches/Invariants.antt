@@ -3,9 +3,7 @@
 use Prim.Native.Nat.{◌-◌}
 use Rattle.tiling.specs.Run.{equal_run}
 use Rattle.measure.specs.Block.{block}
-use Rattle.measure.proofs.Blocks.{Tested, tested_none, tested_all}
-use Rattle.measure.proofs.Pairs.{pairs_tested}
-use borrow.Author.Rules.{rules}
+use Rattle.measure.proofs.Blocks.{Tested}
 use Rattle.measure.proofs.block_matches.Given as goal
 
 abbrev pub invariant-loop-i : goal.invariant-loop-i

@@ -2,13 +2,9 @@
 -- where a list has too few words for another block, or at a block that has a and b side by side.
 -- Assumes nothing.
 use Prim.Native.Nat.{◌-◌, ◌≤◌}
-use native.Mathlib.Omega.{arith}
 use lib.ListN.{length}
-use borrow.Author.Tests.{leb-true}
 use Rattle.measure.specs.Before.{before}
-use Rattle.measure.proofs.Blocks.{Blocks, block_room, blocks_none, blocks_more, blocks_stop}
-use Rattle.measure.proofs.Pairs.{pairs_after, short_first, short_second}
-use borrow.Author.Rules.{rules}
+use Rattle.measure.proofs.Blocks.{Blocks}
 use Rattle.measure.proofs.blocks_before.Given as goal
 
 abbrev pub invariant-loop-n : goal.invariant-loop-n

@@ -1,12 +1,9 @@
 -- `measure::blocks_run` meets its contract: at the head of each turn n words match, in whole blocks, and the loop ends where a
 -- list has too few words for another block, or at a block that does not match.
 -- Assumes nothing.
-use Prim.Native.Nat.{◌-◌, ◌≤◌}
 use native.Mathlib.Omega.{arith}
-use lib.ListN.{length}
 use borrow.Author.Tests.{leb-true}
-use Rattle.tiling.specs.Run.{equal_run}
-use Rattle.measure.proofs.Blocks.{Blocks, block_room, blocks_none, blocks_more, blocks_stop}
+use Rattle.measure.proofs.Blocks.{block_room, blocks_none, blocks_more, blocks_stop}
 use Rattle.measure.proofs.Pairs.{pairs_after, short_first, short_second}
 use borrow.Author.Rules.{rules}
 use Rattle.measure.proofs.blocks_run.Goals as goal

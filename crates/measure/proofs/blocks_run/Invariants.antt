@@ -2,13 +2,9 @@
 -- list has too few words for another block, or at a block that does not match.
 -- Assumes nothing.
 use Prim.Native.Nat.{◌-◌, ◌≤◌}
-use native.Mathlib.Omega.{arith}
 use lib.ListN.{length}
-use borrow.Author.Tests.{leb-true}
 use Rattle.tiling.specs.Run.{equal_run}
-use Rattle.measure.proofs.Blocks.{Blocks, block_room, blocks_none, blocks_more, blocks_stop}
-use Rattle.measure.proofs.Pairs.{pairs_after, short_first, short_second}
-use borrow.Author.Rules.{rules}
+use Rattle.measure.proofs.Blocks.{Blocks}
 use Rattle.measure.proofs.blocks_run.Given as goal
 
 abbrev pub invariant-loop-n : goal.invariant-loop-n

@@ -1,7 +1,6 @@
 -- `measure::measured_run` meets its contract: a run without a whole block ends in its first one.
 -- Assumes nothing.
 use Rattle.measure.proofs.Longer.{counted_none, counted_all}
-use borrow.Author.Rules.{rules}
 use Rattle.measure.proofs.measured_run.Goals as goal
 
 pub returns-then-whole-best : goal.returns-then-whole-best

@@ -1,12 +1,8 @@
 -- `measure::positions_before` meets its contract: n positions are passed, first in whole blocks, and the loop ends with a list or at a and b.
 -- Assumes nothing.
-use Prim.Native.Nat.{◌-◌, ◌≤◌}
-use lib.ListN.{length}
 use borrow.Author.Tests.{ltb-true, ltb-false}
-use Rattle.measure.specs.Before.{before}
 use Rattle.measure.proofs.Blocks.{blocks_within}
 use Rattle.measure.proofs.Pairs.{pairs_more, pairs_stop, pairs_first, pairs_second}
-use borrow.Author.Rules.{rules}
 use Rattle.measure.proofs.positions_before.Goals as goal
 
 pub loop-n-init : goal.loop-n-init

@@ -2,11 +2,7 @@
 -- Assumes nothing.
 use Prim.Native.Nat.{◌-◌, ◌≤◌}
 use lib.ListN.{length}
-use borrow.Author.Tests.{ltb-true, ltb-false}
 use Rattle.measure.specs.Before.{before}
-use Rattle.measure.proofs.Blocks.{blocks_within}
-use Rattle.measure.proofs.Pairs.{pairs_more, pairs_stop, pairs_first, pairs_second}
-use borrow.Author.Rules.{rules}
 use Rattle.measure.proofs.positions_before.Given as goal
 
 abbrev pub invariant-loop-n : goal.invariant-loop-n

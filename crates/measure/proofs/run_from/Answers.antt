@@ -1,11 +1,7 @@
 -- `measure::run_from` meets its contract: n words match, and the loop ends with a list or at a pair that does not match.
 -- Assumes nothing.
-use Prim.Native.Nat.{◌-◌, ◌≤◌}
-use lib.ListN.{length}
 use borrow.Author.Tests.{ltb-true, ltb-false}
-use Rattle.tiling.specs.Run.{equal_run}
 use Rattle.measure.proofs.Pairs.{pairs_more, pairs_stop, pairs_first, pairs_second}
-use borrow.Author.Rules.{rules}
 use Rattle.measure.proofs.run_from.Goals as goal
 
 pub loop-n-preserved : goal.loop-n-preserved

@@ -2,7 +2,6 @@
 -- Assumes nothing.
 use Rattle.symbol.proofs.Refusal.{kept, given, counted_none, counted_all}
 use Rattle.merge.proofs.Merging.{accepted_some, two_more}
-use borrow.Author.Rules.{rules}
 use Rattle.merge.proofs.merge.Goals as goal
 
 pub returns-then-refusal-ne0-clause-value : goal.returns-then-refusal-ne0-clause-value

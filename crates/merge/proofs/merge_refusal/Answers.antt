@@ -1,7 +1,6 @@
 -- `merge::merge_refusal` meets its contract: a fault of the first stops the chain, then one of the second, and then both together decide.
 -- Assumes nothing.
 use Rattle.merge.proofs.Merging.{first_refused, second_refused, pair_decides}
-use borrow.Author.Rules.{rules}
 use Rattle.merge.proofs.merge_refusal.Goals as goal
 
 pub returns-then-found-ne0 : goal.returns-then-found-ne0

@@ -1,9 +1,6 @@
 -- `merge::merge_words` meets its contract: after i turns the first i merged words stand at the start of the buffer, and the rest is as it was.
 -- Assumes nothing.
-use Prim.Native.Nat.{◌-◌}
-use lib.ListN.{length}
-use Rattle.merge.proofs.Merging.{Merging, merging_none, merging_more, merging_all}
-use borrow.Author.Rules.{rules}
+use Rattle.merge.proofs.Merging.{merging_none, merging_more, merging_all}
 use Rattle.merge.proofs.merge_words.Goals as goal
 
 pub loop-i-init : goal.loop-i-init

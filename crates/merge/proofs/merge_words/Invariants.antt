@@ -2,8 +2,7 @@
 -- Assumes nothing.
 use Prim.Native.Nat.{◌-◌}
 use lib.ListN.{length}
-use Rattle.merge.proofs.Merging.{Merging, merging_none, merging_more, merging_all}
-use borrow.Author.Rules.{rules}
+use Rattle.merge.proofs.Merging.{Merging}
 use Rattle.merge.proofs.merge_words.Given as goal
 
 abbrev pub invariant-loop-i : goal.invariant-loop-i

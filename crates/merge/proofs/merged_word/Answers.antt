@@ -1,7 +1,6 @@
 -- `merge::merged_word` meets its contract: equal calls match, and then it tests the cases in the order of the definition.
 -- Assumes nothing.
 use Rattle.merge.proofs.Word.{take_equal, take_agreed, take_second, take_first, take_none}
-use borrow.Author.Rules.{rules}
 use Rattle.merge.proofs.merged_word.Goals as goal
 
 pub returns-then-equal_calls : goal.returns-then-equal_calls

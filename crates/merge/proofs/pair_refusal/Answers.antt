@@ -1,7 +1,6 @@
 -- `merge::pair_refusal` meets its contract: it tests the causes in the order of the chain, and both slices have a header.
 -- Assumes nothing.
 use Rattle.merge.proofs.Merging.{some_words, id_refused, count_refused, room_refused, pair_passed}
-use borrow.Author.Rules.{rules}
 use Rattle.merge.proofs.pair_refusal.Goals as goal
 
 pub bounds-first-0 : goal.bounds-first-0

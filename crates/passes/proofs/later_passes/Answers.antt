@@ -3,8 +3,7 @@
 -- Assumes nothing.
 use borrow.Author.Tests.{not-false}
 use Rattle.sweep.proofs.Turn.{few_covered, few_fillable}
-use Rattle.passes.proofs.Passes.{Resting, resting_none, resting_covered, resting_short, resting_fits, resting_ranges, resting_less, resting_more, resting_done, resting_goal}
-use borrow.Author.Rules.{rules}
+use Rattle.passes.proofs.Passes.{resting_none, resting_covered, resting_short, resting_fits, resting_ranges, resting_less, resting_more, resting_done, resting_goal}
 use Rattle.passes.proofs.later_passes.Goals as goal
 
 pub loop-now-init : goal.loop-now-init

@@ -1,10 +1,7 @@
 -- `passes::later_passes` meets its contract: at the head of each turn nothing as long as the search length is left, and no run is longer than the
 -- stretch.
 -- Assumes nothing.
-use borrow.Author.Tests.{not-false}
-use Rattle.sweep.proofs.Turn.{few_covered, few_fillable}
-use Rattle.passes.proofs.Passes.{Resting, resting_none, resting_covered, resting_short, resting_fits, resting_ranges, resting_less, resting_more, resting_done, resting_goal}
-use borrow.Author.Rules.{rules}
+use Rattle.passes.proofs.Passes.{Resting}
 use Rattle.passes.proofs.later_passes.Given as goal
 
 abbrev pub invariant-loop-now : goal.invariant-loop-now

@@ -2,7 +2,6 @@
 -- Assumes nothing.
 use Rattle.bounds.proofs.Blocks.{covering_all}
 use Rattle.passes.proofs.Passes.{filled_built}
-use borrow.Author.Rules.{rules}
 use Rattle.passes.proofs.prepare.Goals as goal
 
 pub returns-clause-filled_rows : goal.returns-clause-filled_rows

@@ -1,7 +1,7 @@
 -- `plain::fill_bounds` meets its contract: at the head of each turn the rows from the stretch's end on have their bounds, and none of those after the
 -- stretch that were passed over is free.
 -- Assumes nothing.
-use Rattle.sweep.proofs.Bounds.{Stretching, stretching_none, stretching_next, stretching_more, stretching_less, stretching_all}
+use Rattle.sweep.proofs.Bounds.{stretching_none, stretching_next, stretching_more, stretching_less, stretching_all}
 use borrow.Author.Rules.{rules}
 use Rattle.plain.proofs.fill_bounds.Goals as goal
 

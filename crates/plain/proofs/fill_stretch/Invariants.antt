@@ -1,8 +1,7 @@
 -- `plain::fill_stretch` meets its contract: at the head of each turn the rows from p on have their bounds, and the last of them caps the row before.
 -- Assumes nothing.
 use Prim.Native.Nat.{◌≤◌}
-use Rattle.sweep.proofs.Bounds.{Filling, filling_none, filling_more, filling_all, before_row, before_upper, before_inside, row_fits}
-use borrow.Author.Rules.{rules}
+use Rattle.sweep.proofs.Bounds.{Filling}
 use Rattle.plain.proofs.fill_stretch.Given as goal
 
 abbrev pub invariant-loop-p : goal.invariant-loop-p

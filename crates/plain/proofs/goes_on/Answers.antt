@@ -1,7 +1,6 @@
 -- `plain::goes_on` meets its contract: the position is tested, and then the words.
 -- Assumes nothing.
 use Rattle.plain.proofs.Fill.{goes_not, goes_by}
-use borrow.Author.Rules.{rules}
 use Rattle.plain.proofs.goes_on.Goals as goal
 
 pub returns-then-job-before : goal.returns-then-job-before

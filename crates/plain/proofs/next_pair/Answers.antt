@@ -3,7 +3,6 @@
 use Prim.Native.Nat.{◌≤◌}
 use native.Mathlib.Omega.{arith}
 use Rattle.plain.proofs.Next.{passed_few, pair_passed}
-use borrow.Author.Rules.{rules}
 use Rattle.plain.proofs.next_pair.Goals as goal
 
 pub overflow_add-result : goal.overflow_add-result

@@ -1,7 +1,6 @@
 -- `plain::plain_refusal` meets its contract: a cause of the pair stops the chain, and then the room decides.
 -- Assumes nothing.
 use Rattle.tiling.proofs.Comparing.{pair_refused, comparable_of, later_decides}
-use borrow.Author.Rules.{rules}
 use Rattle.plain.proofs.plain_refusal.Goals as goal
 
 pub returns-then-of_pair-ne0 : goal.returns-then-of_pair-ne0

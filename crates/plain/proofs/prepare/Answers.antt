@@ -1,7 +1,6 @@
 -- `plain::prepare` meets its contract: all blocks are set.
 -- Assumes nothing.
 use Rattle.bounds.proofs.Blocks.{covering_all}
-use borrow.Author.Rules.{rules}
 use Rattle.plain.proofs.prepare.Goals as goal
 
 pub returns-clause-covering : goal.returns-clause-covering

@@ -1,12 +1,9 @@
 -- `plain::row_search` meets its contract: at the head of each turn what was found is the longest of the runs before t, or the floor. No longer run
 -- begins at a position that is passed over, nor where too few words are left.
 -- Assumes nothing.
-use Prim.Native.Nat.{◌-◌, ◌≤◌}
 use borrow.Author.Tests.{ltb-true, ltb-false}
-use lib.ListN.{length}
-use Rattle.chain.specs.Chain.{Chained}
 use Rattle.sweep.proofs.Row.{better_least}
-use Rattle.plain.proofs.Scan.{Seen, seen_none, seen_more, start_less, counted_small, seen_last, seen_pattern, seen_text}
+use Rattle.plain.proofs.Scan.{seen_none, seen_more, start_less, counted_small, seen_last, seen_pattern, seen_text}
 use borrow.Author.Rules.{rules}
 use Rattle.plain.proofs.row_search.Goals as goal
 

@@ -2,12 +2,9 @@
 -- begins at a position that is passed over, nor where too few words are left.
 -- Assumes nothing.
 use Prim.Native.Nat.{◌-◌, ◌≤◌}
-use borrow.Author.Tests.{ltb-true, ltb-false}
 use lib.ListN.{length}
 use Rattle.chain.specs.Chain.{Chained}
-use Rattle.sweep.proofs.Row.{better_least}
-use Rattle.plain.proofs.Scan.{Seen, seen_none, seen_more, start_less, counted_small, seen_last, seen_pattern, seen_text}
-use borrow.Author.Rules.{rules}
+use Rattle.plain.proofs.Scan.{Seen}
 use Rattle.plain.proofs.row_search.Given as goal
 
 abbrev pub invariant-loop-found : goal.invariant-loop-found

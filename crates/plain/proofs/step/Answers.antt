@@ -1,7 +1,6 @@
 -- `plain::step` meets its contract: bounds only fall, and the blocks that are set anew are the greatest of theirs.
 -- Assumes nothing.
 use Rattle.bounds.proofs.Blocks.{covering_after}
-use borrow.Author.Rules.{rules}
 use Rattle.plain.proofs.step.Goals as goal
 
 pub returns-clause-covering : goal.returns-clause-covering

@@ -1,9 +1,8 @@
 -- `plain::sweep_rows` meets its contract: each turn takes the sweep over one row whose bound is the level, and over those up to the next.
 -- Assumes nothing.
-use Prim.Native.Nat.{◌-◌}
 use borrow.Author.Tests.{not-true, not-false}
 use Rattle.chain.proofs.First.{first_rises}
-use Rattle.sweep.proofs.Turn.{few_covered, few_fillable, going_on, Swept, swept_none, swept_row, swept_more, swept_all, swept_goal}
+use Rattle.sweep.proofs.Turn.{few_covered, few_fillable, going_on, swept_none, swept_row, swept_more, swept_all, swept_goal}
 use Rattle.plain.proofs.Fill.{sweeping_some}
 use borrow.Author.Rules.{rules}
 use Rattle.plain.proofs.sweep_rows.Goals as goal
@@ -18,7 +17,7 @@ pub step-sum-requires : goal.step-sum-requires
 step-sum-requires c = (search swept_row, search (going_on, not-true), search rules, search rules)
 
 pub later_row-p-requires : goal.later_row-p-requires
-later_row-p-requires c =     let i = c.loop-p.invariant in
+later_row-p-requires c = let i = c.loop-p.invariant in
     (search rules, search rules, search rules, sweeping_some _ _ _ _ _ _ i.sweeping)
 
 pub loop-p-smaller : goal.loop-p-smaller

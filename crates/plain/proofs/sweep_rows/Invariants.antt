@@ -1,11 +1,7 @@
 -- `plain::sweep_rows` meets its contract: each turn takes the sweep over one row whose bound is the level, and over those up to the next.
 -- Assumes nothing.
 use Prim.Native.Nat.{◌-◌}
-use borrow.Author.Tests.{not-true, not-false}
-use Rattle.chain.proofs.First.{first_rises}
-use Rattle.sweep.proofs.Turn.{few_covered, few_fillable, going_on, Swept, swept_none, swept_row, swept_more, swept_all, swept_goal}
-use Rattle.plain.proofs.Fill.{sweeping_some}
-use borrow.Author.Rules.{rules}
+use Rattle.sweep.proofs.Turn.{Swept}
 use Rattle.plain.proofs.sweep_rows.Given as goal
 
 abbrev pub invariant-loop-p : goal.invariant-loop-p

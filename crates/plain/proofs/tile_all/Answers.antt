@@ -5,7 +5,7 @@ use borrow.Author.Rules.{rules}
 use Rattle.plain.proofs.tile_all.Goals as goal
 
 pub lay_all-requires : goal.lay_all-requires
-lay_all-requires c =     (filled_ready _ _ _ _ _ c.prepare.ensures.filled (search rules), search rules)
+lay_all-requires c = (filled_ready _ _ _ _ _ c.prepare.ensures.filled (search rules), search rules)
 
 pub returns : goal.returns
 returns c = search filled_finished

@@ -3,7 +3,6 @@
 -- Assumes nothing.
 use Rattle.symbol.proofs.Refusal.{causes}
 use Rattle.record.proofs.Reading.{sound_cause, close_passed, close_refused}
-use borrow.Author.Rules.{rules}
 use Rattle.record.proofs.content_refusal.Goals as goal
 
 pub returns-then-not-all_sound : goal.returns-then-not-all_sound

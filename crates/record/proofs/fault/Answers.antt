@@ -2,7 +2,6 @@
 -- Assumes nothing.
 use mathlib.Core.Path.{sym, ◌∙◌}
 use Rattle.record.proofs.Reading.{framed, frame_refused, frame_passed}
-use borrow.Author.Rules.{rules}
 use Rattle.record.proofs.fault.Goals as goal
 
 pub returns-then-framed-ne0 : goal.returns-then-framed-ne0

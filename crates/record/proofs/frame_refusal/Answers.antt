@@ -2,7 +2,6 @@
 -- Assumes nothing.
 use Rattle.symbol.specs.Word.{kind}
 use Rattle.symbol.proofs.Refusal.{causes}
-use borrow.Author.Rules.{rules}
 use Rattle.record.proofs.frame_refusal.Goals as goal
 
 pub returns-then-src-eq0 : goal.returns-then-src-eq0

@@ -7,7 +7,6 @@ use lib.ListN.{length, length-take, length-drop}
 use Rattle.symbol.proofs.Refusal.{kept, given}
 use Rattle.record.specs.Reading.{count}
 use Rattle.record.proofs.Reading.{Recorded, accepted, accepted_fits, read_refused, read_accepted, read_copied}
-use borrow.Author.Rules.{rules}
 use Rattle.record.proofs.read.Goals.{Else-refusal-ne0}
 use Rattle.record.proofs.read.Goals as goal
 

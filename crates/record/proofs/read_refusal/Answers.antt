@@ -3,7 +3,6 @@
 use native.Mathlib.Omega.{arith}
 use mathlib.Core.Path.{sym, ◌∙◌}
 use Rattle.record.proofs.Reading.{faultless, fault_refused, room_refused, room_passed}
-use borrow.Author.Rules.{rules}
 use Rattle.record.proofs.read_refusal.Goals as goal
 
 pub returns-then-found-ne0 : goal.returns-then-found-ne0

@@ -1,7 +1,6 @@
 -- `record::store` meets its contract: each store goes just after the words already written.
 -- Assumes nothing.
 use Rattle.record.proofs.Writing.{closed}
-use borrow.Author.Rules.{rules}
 use Rattle.record.proofs.store.Goals as goal
 
 pub returns : goal.returns

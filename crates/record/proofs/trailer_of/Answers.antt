@@ -1,9 +1,6 @@
 -- `record::trailer_of` meets its contract: after i turns the sum is the checksum of the header and the first i words.
 -- Assumes nothing.
-use Prim.Native.Nat.{◌-◌}
-use lib.ListN.{length}
-use Rattle.record.proofs.Format.{Summed, summed_none, summed_more, summed_all}
-use borrow.Author.Rules.{rules}
+use Rattle.record.proofs.Format.{summed_none, summed_more, summed_all}
 use Rattle.record.proofs.trailer_of.Goals as goal
 
 pub loop-i-init : goal.loop-i-init

@@ -2,8 +2,7 @@
 -- Assumes nothing.
 use Prim.Native.Nat.{◌-◌}
 use lib.ListN.{length}
-use Rattle.record.proofs.Format.{Summed, summed_none, summed_more, summed_all}
-use borrow.Author.Rules.{rules}
+use Rattle.record.proofs.Format.{Summed}
 use Rattle.record.proofs.trailer_of.Given as goal
 
 abbrev pub invariant-loop-i : goal.invariant-loop-i

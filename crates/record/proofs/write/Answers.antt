@@ -5,7 +5,6 @@ use mathlib.Core.Path.{sym, ◌∙◌}
 use lib.ListN.{length}
 use Rattle.symbol.proofs.Refusal.{kept, given, counted_none, counted_all}
 use Rattle.record.proofs.Writing.{Writable, writable, written}
-use borrow.Author.Rules.{rules}
 use Rattle.record.proofs.write.Goals.{Else-refusal-ne0}
 use Rattle.record.proofs.write.Goals as goal
 

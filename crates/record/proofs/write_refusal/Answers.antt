@@ -1,7 +1,6 @@
 -- `record::write_refusal` meets its contract: it tests the causes in the order of the chain.
 -- Assumes nothing.
 use Rattle.symbol.proofs.Refusal.{causes}
-use borrow.Author.Rules.{rules}
 use Rattle.record.proofs.write_refusal.Goals as goal
 
 pub returns-then-s-gt2048 : goal.returns-then-s-gt2048

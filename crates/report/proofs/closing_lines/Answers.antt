@@ -2,7 +2,6 @@
 -- Assumes nothing.
 use Rattle.lines.specs.Text.{ascii}
 use Rattle.report.proofs.Lines.{closed}
-use borrow.Author.Rules.{rules}
 use Rattle.report.proofs.closing_lines.Goals as goal
 
 pub returns : goal.returns

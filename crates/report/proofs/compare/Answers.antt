@@ -1,7 +1,6 @@
 -- `report::compare` meets its contract: an accepted comparison's tiles are printed, and otherwise the refusal's number.
 -- Assumes nothing.
 use Rattle.report.proofs.Engine.{laid_there, compared_accepted, compared_refused}
-use borrow.Author.Rules.{rules}
 use Rattle.report.proofs.compare.Goals as goal
 
 pub returns-then-answer-ne0 : goal.returns-then-answer-ne0

@@ -1,7 +1,6 @@
 -- `report::from_words` meets its contract: without a word nothing is read, and otherwise the first is the minimum.
 -- Assumes nothing.
 use Rattle.report.proofs.Records.{words_refused, words_accepted}
-use borrow.Author.Rules.{rules}
 use Rattle.report.proofs.from_words.Goals as goal
 
 pub returns-then-words-eq0 : goal.returns-then-words-eq0

@@ -2,7 +2,6 @@
 -- Assumes nothing.
 use Rattle.lines.specs.Text.{ascii}
 use Rattle.report.proofs.Lines.{opened}
-use borrow.Author.Rules.{rules}
 use Rattle.report.proofs.opening_lines.Goals as goal
 
 pub returns : goal.returns

@@ -2,7 +2,6 @@
 -- Assumes nothing.
 use Rattle.lines.specs.Text.{ascii}
 use Rattle.report.proofs.Lines.{refused_written}
-use borrow.Author.Rules.{rules}
 use Rattle.report.proofs.refused_line.Goals as goal
 
 pub returns : goal.returns

@@ -2,7 +2,6 @@
 -- does not store nor what the buffer had no room for changes anything.
 -- Assumes nothing.
 use Rattle.report.proofs.Input.{stored_fit, stored_count, reported, stream_reported, report_fits, report_counts}
-use borrow.Author.Rules.{rules}
 use Rattle.report.proofs.report.Goals as goal
 
 pub slice_bounds-words-end : goal.slice_bounds-words-end

@@ -1,11 +1,8 @@
 -- `report::store_words` meets its contract: after i turns the first i words are stored, and it ends where the buffer is full or fewer than four
 -- bytes are left.
 -- Assumes nothing.
-use Prim.Native.Nat.{◌-◌}
-use lib.ListN.{length}
 use borrow.Author.Tests.{ltb-true, ltb-false}
-use Rattle.report.proofs.Words.{Stored, stored_none, stored_more, full_count, full_held, used_count, used_held}
-use borrow.Author.Rules.{rules}
+use Rattle.report.proofs.Words.{stored_none, stored_more, full_count, full_held, used_count, used_held}
 use Rattle.report.proofs.store_words.Goals as goal
 
 pub loop-i-init : goal.loop-i-init

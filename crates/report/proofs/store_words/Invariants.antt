@@ -3,9 +3,7 @@
 -- Assumes nothing.
 use Prim.Native.Nat.{◌-◌}
 use lib.ListN.{length}
-use borrow.Author.Tests.{ltb-true, ltb-false}
-use Rattle.report.proofs.Words.{Stored, stored_none, stored_more, full_count, full_held, used_count, used_held}
-use borrow.Author.Rules.{rules}
+use Rattle.report.proofs.Words.{Stored}
 use Rattle.report.proofs.store_words.Given as goal
 
 abbrev pub invariant-loop-i : goal.invariant-loop-i

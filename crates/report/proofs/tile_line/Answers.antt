@@ -1,7 +1,6 @@
 -- `report::tile_line` meets its contract: the shift that is printed is that of the tile.
 -- Assumes nothing.
 use Rattle.report.proofs.Lines.{tile_written}
-use borrow.Author.Rules.{rules}
 use Rattle.report.proofs.tile_line.Goals as goal
 
 pub returns : goal.returns

@@ -1,8 +1,7 @@
 -- `report::tile_lines` meets its contract: after i turns the lines of the first i tiles are written.
 -- Assumes nothing.
 use Prim.Native.Nat.{◌-◌}
-use Rattle.report.proofs.Tiles.{Printed, printed_none, printed_more, printed_all, line_room, first_start, second_start}
-use borrow.Author.Rules.{rules}
+use Rattle.report.proofs.Tiles.{Printed}
 use Rattle.report.proofs.tile_lines.Given as goal
 
 abbrev pub invariant-loop-i : goal.invariant-loop-i

@@ -2,7 +2,6 @@
 -- Assumes nothing.
 use Rattle.lines.specs.Text.{ascii}
 use Rattle.report.proofs.Lines.{shift_written}
-use borrow.Author.Rules.{rules}
 use Rattle.report.proofs.tile_shift.Goals as goal
 
 pub returns : goal.returns

@@ -2,7 +2,6 @@
 -- Assumes nothing.
 use Rattle.ends.proofs.Closing.{compare_refused, compare_passed}
 use Rattle.search.proofs.Accepted.{known_comparable, known_in_range, known_roomy}
-use borrow.Author.Rules.{rules}
 use Rattle.search.proofs.compare.Goals as goal
 
 pub returns-then-refusal-ne0 : goal.returns-then-refusal-ne0

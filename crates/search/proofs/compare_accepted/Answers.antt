@@ -2,7 +2,6 @@
 -- cleared.
 -- Assumes nothing.
 use Rattle.search.proofs.Accepted.{fast_answers}
-use borrow.Author.Rules.{rules}
 use Rattle.search.proofs.compare_accepted.Goals as goal
 
 pub returns : goal.returns

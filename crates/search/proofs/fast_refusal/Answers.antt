@@ -1,7 +1,6 @@
 -- `search::fast_refusal` meets its contract: a cause that every service checks stops the chain, and then the room decides.
 -- Assumes nothing.
 use Rattle.tiling.proofs.Comparing.{search_refused, comparable_searched, search_decides}
-use borrow.Author.Rules.{rules}
 use Rattle.search.proofs.fast_refusal.Goals as goal
 
 pub returns-then-of_search-ne0 : goal.returns-then-of_search-ne0

@@ -2,14 +2,13 @@
 -- Assumes nothing.
 use Rattle.ends.proofs.Ending.{begun, ended}
 use Rattle.search.proofs.Accepted.{first_pass}
-use borrow.Author.Rules.{rules}
 use Rattle.search.proofs.lay.Goals as goal
 
 pub tile_all-requires : goal.tile_all-requires
 tile_all-requires c = (search begun, search first_pass)
 
 pub returns : goal.returns
-returns c =     let opened = c.open-job.ensures in
+returns c = let opened = c.open-job.ensures in
     let none = c.unlaid.ensures in
     let laid = c.tile_all.ensures in
     ended _ _ _ _ _ _ c.requires.comparable c.requires.room _ _ opened _ none _ _ _ laid

@@ -2,10 +2,8 @@
 -- Assumes nothing.
 use Prim.Native.Nat.{◌-◌, min}
 use mathlib.Core.Path.{◌≡◌}
-use borrow.Author.Tests.{eqb-true, eqb-false, not-true, not-false}
 use lib.ListN.{length, get_or}
-use Rattle.stretch.proofs.Sides.{Seen, seen_none, seen_more, first_all, first_marked}
-use borrow.Author.Rules.{rules}
+use Rattle.stretch.proofs.Sides.{Seen}
 use Rattle.stretch.proofs.free_first.Given as goal
 
 abbrev pub invariant-loop-i : goal.invariant-loop-i

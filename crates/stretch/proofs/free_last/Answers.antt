@@ -1,10 +1,7 @@
 -- `stretch::free_last` meets its contract: at the head of each turn the words seen so far are free, from the last on.
 -- Assumes nothing.
-use Prim.Native.Nat.{◌-◌, min}
-use mathlib.Core.Path.{◌≡◌}
 use borrow.Author.Tests.{eqb-true, eqb-false, not-true, not-false}
-use lib.ListN.{length, get_or}
-use Rattle.stretch.proofs.Sides.{Seen, seen_none, seen_more, last_all, last_marked}
+use Rattle.stretch.proofs.Sides.{seen_none, seen_more, last_all, last_marked}
 use borrow.Author.Rules.{rules}
 use Rattle.stretch.proofs.free_last.Goals as goal
 

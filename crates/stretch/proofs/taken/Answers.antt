@@ -1,7 +1,6 @@
 -- `stretch::taken` meets its contract: to count as far as the minimum on either side is enough.
 -- Assumes nothing.
 use Rattle.stretch.proofs.Sides.{one_fits, both_fit, taken_all}
-use borrow.Author.Rules.{rules}
 use Rattle.stretch.proofs.taken.Goals as goal
 
 pub overflow_add-result : goal.overflow_add-result

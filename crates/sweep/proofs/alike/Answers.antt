@@ -2,7 +2,6 @@
 -- so long.
 -- Assumes nothing.
 use Rattle.sweep.proofs.Told.{alike_short, alike_short_other, alike_is}
-use borrow.Author.Rules.{rules}
 use Rattle.sweep.proofs.alike.Goals as goal
 
 pub returns-then-job-a : goal.returns-then-job-a

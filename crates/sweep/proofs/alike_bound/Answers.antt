@@ -2,7 +2,6 @@
 -- Assumes nothing.
 use borrow.Author.Tests.{not-true, not-false}
 use Rattle.sweep.proofs.Told.{by_cap, by_unlike, by_alike}
-use borrow.Author.Rules.{rules}
 use Rattle.sweep.proofs.alike_bound.Goals as goal
 
 pub returns-then-cap-len : goal.returns-then-cap-len

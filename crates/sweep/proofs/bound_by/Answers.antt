@@ -1,7 +1,6 @@
 -- `sweep::bound_by` meets its contract: the other row is asked only where it is there.
 -- Assumes nothing.
 use Rattle.sweep.proofs.Told.{by_before, by_past, by_row}
-use borrow.Author.Rules.{rules}
 use Rattle.sweep.proofs.bound_by.Goals as goal
 
 pub returns-then-q-from : goal.returns-then-q-from

@@ -1,7 +1,6 @@
 -- `sweep::lay_next` meets its contract: what further tiles may take is less by what this one takes.
 -- Assumes nothing.
 use Rattle.sweep.proofs.Laying.{totals_after}
-use borrow.Author.Rules.{rules}
 use Rattle.sweep.proofs.lay_next.Goals as goal
 
 pub returns-clause-value : goal.returns-clause-value

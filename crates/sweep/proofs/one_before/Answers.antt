@@ -1,7 +1,6 @@
 -- `sweep::one_before` meets its contract: it is the definition, by cases.
 -- Assumes nothing.
 use Rattle.sweep.proofs.Told.{before_first, before_next}
-use borrow.Author.Rules.{rules}
 use Rattle.sweep.proofs.one_before.Goals as goal
 
 pub returns-then-t-eq0 : goal.returns-then-t-eq0

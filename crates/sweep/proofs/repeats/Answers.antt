@@ -1,7 +1,6 @@
 -- `sweep::repeats` meets its contract: the row is measured against itself, one word further on.
 -- Assumes nothing.
 use Rattle.sweep.proofs.Passed.{repeats_none, repeats_some}
-use borrow.Author.Rules.{rules}
 use Rattle.sweep.proofs.repeats.Goals as goal
 
 pub returns-then-row-eq0 : goal.returns-then-row-eq0

@@ -1,7 +1,6 @@
 -- `sweep::taken_by` meets its contract: the pattern stands at the start of the workspace.
 -- Assumes nothing.
 use Rattle.sweep.proofs.Laying.{front_free, front_short, front_taken}
-use borrow.Author.Rules.{rules}
 use Rattle.sweep.proofs.taken_by.Goals as goal
 
 pub taken-requires : goal.taken-requires

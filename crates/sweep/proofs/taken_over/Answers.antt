@@ -1,7 +1,6 @@
 -- `sweep::taken_over` meets its contract: it is the definition.
 -- Assumes nothing.
 use Rattle.sweep.proofs.Told.{taken_is}
-use borrow.Author.Rules.{rules}
 use Rattle.sweep.proofs.taken_over.Goals as goal
 
 pub returns : goal.returns

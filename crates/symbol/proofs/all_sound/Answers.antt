@@ -1,10 +1,6 @@
 -- `symbol::all_sound` meets its contract: at the head of each turn `all` says whether each word before i is sound.
 -- Assumes nothing.
-use Prim.Native.Nat.{◌-◌}
-use lib.ListN.{length}
-use Rattle.symbol.specs.Word.{is_sound}
-use Rattle.symbol.proofs.Sequence.{Passed, passed_none, passed_more, passed_all}
-use borrow.Author.Rules.{rules}
+use Rattle.symbol.proofs.Sequence.{passed_none, passed_more, passed_all}
 use Rattle.symbol.proofs.all_sound.Goals as goal
 
 pub loop-i-init : goal.loop-i-init

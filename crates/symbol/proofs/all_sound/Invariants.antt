@@ -3,8 +3,7 @@
 use Prim.Native.Nat.{◌-◌}
 use lib.ListN.{length}
 use Rattle.symbol.specs.Word.{is_sound}
-use Rattle.symbol.proofs.Sequence.{Passed, passed_none, passed_more, passed_all}
-use borrow.Author.Rules.{rules}
+use Rattle.symbol.proofs.Sequence.{Passed}
 use Rattle.symbol.proofs.all_sound.Given as goal
 
 abbrev pub invariant-loop-i : goal.invariant-loop-i

@@ -1,10 +1,6 @@
 -- `symbol::none_retired` meets its contract: at the head of each turn `all` says whether no word before i is retired.
 -- Assumes nothing.
-use Prim.Native.Nat.{◌-◌}
-use lib.ListN.{length}
-use Rattle.symbol.specs.Sequence.{is_current}
-use Rattle.symbol.proofs.Sequence.{Passed, passed_none, passed_more, passed_all, unlike}
-use borrow.Author.Rules.{rules}
+use Rattle.symbol.proofs.Sequence.{passed_none, passed_more, passed_all, unlike}
 use Rattle.symbol.proofs.none_retired.Goals as goal
 
 pub loop-i-init : goal.loop-i-init

@@ -2,7 +2,6 @@
 -- Assumes nothing.
 use Rattle.threshold.proofs.Telling.{at_least_refused, at_least_told}
 use Rattle.threshold.proofs.Refusal.{accepted_comparable, accepted_in_range, accepted_room, accepted_threshold}
-use borrow.Author.Rules.{rules}
 use Rattle.threshold.proofs.at_least.Goals as goal
 
 pub returns-then-refusal-ne0 : goal.returns-then-refusal-ne0

@@ -1,7 +1,6 @@
 -- `threshold::tell` meets its contract: what the tiles cover that were laid until the goal decides as all of them would.
 -- Assumes nothing.
 use Rattle.threshold.proofs.Telling.{room_untold, told_is, cleared_whole}
-use borrow.Author.Rules.{rules}
 use Rattle.threshold.proofs.tell.Goals as goal
 
 pub lay-sum-requires-clause-room : goal.lay-sum-requires-clause-room

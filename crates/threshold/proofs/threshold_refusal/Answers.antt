@@ -2,7 +2,6 @@
 -- Assumes nothing.
 use Rattle.tiling.proofs.Comparing.{search_refused}
 use Rattle.threshold.proofs.Refusal.{short_first, short_second, workspace_refused, threshold_high, threshold_fine}
-use borrow.Author.Rules.{rules}
 use Rattle.threshold.proofs.threshold_refusal.Goals as goal
 
 pub returns-then-of_search-ne0 : goal.returns-then-of_search-ne0

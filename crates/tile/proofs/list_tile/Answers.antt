@@ -2,7 +2,6 @@
 -- order of the two sequences as handed in.
 -- Assumes nothing.
 use Rattle.tile.proofs.Tail.{tail_straight, tail_crossed}
-use borrow.Author.Rules.{rules}
 use Rattle.tile.proofs.list_tile.Goals as goal
 
 pub returns-then-straight : goal.returns-then-straight

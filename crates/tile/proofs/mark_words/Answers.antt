@@ -1,8 +1,6 @@
 -- `tile::mark_words` meets its contract: after i turns the first i words of the stretch are marked and nothing else is touched.
 -- Assumes nothing.
-use Prim.Native.Nat.{◌-◌}
-use Rattle.tile.proofs.Marking.{Marked, marked_none, marked_more, marked_all}
-use borrow.Author.Rules.{rules}
+use Rattle.tile.proofs.Marking.{marked_none, marked_more, marked_all}
 use Rattle.tile.proofs.mark_words.Goals as goal
 
 pub loop-i-init : goal.loop-i-init

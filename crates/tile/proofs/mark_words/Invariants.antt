@@ -1,8 +1,7 @@
 -- `tile::mark_words` meets its contract: after i turns the first i words of the stretch are marked and nothing else is touched.
 -- Assumes nothing.
 use Prim.Native.Nat.{◌-◌}
-use Rattle.tile.proofs.Marking.{Marked, marked_none, marked_more, marked_all}
-use borrow.Author.Rules.{rules}
+use Rattle.tile.proofs.Marking.{Marked}
 use Rattle.tile.proofs.mark_words.Given as goal
 
 abbrev pub invariant-loop-i : goal.invariant-loop-i

@@ -1,7 +1,6 @@
 -- `tile::shift` meets its contract: the difference of two numbers below 2,048 fits 32 bits, so that nothing wraps.
 -- Assumes nothing.
 use Rattle.tile.proofs.Difference.{difference_fits, shifted}
-use borrow.Author.Rules.{rules}
 use Rattle.tile.proofs.shift.Goals as goal
 
 pub overflow_sub-result : goal.overflow_sub-result

@@ -1,9 +1,7 @@
 -- `window::fill_hashes` meets its contract: at the head of each turn the hashes before i stand in the buffer and h is the hash at i, which the
 -- last store puts down where the last window begins; all are hashes of replaced words.
 -- Assumes nothing.
-use Rattle.std.proofs.Common.{◌-◌, map, length, rules}
-use Rattle.symbol.specs.Word.{replaced}
-use Rattle.window.proofs.HashList.{Filled, none_fits, replaced_fits, replaced_more, replaced_all}
+use Rattle.window.proofs.HashList.{none_fits, replaced_fits, replaced_more, replaced_all}
 use Rattle.window.proofs.fill_hashes.Goals as goal
 
 pub returns-then-words-s : goal.returns-then-words-s
@@ -13,7 +11,7 @@ pub loop-i-init : goal.loop-i-init
 loop-i-init c = search replaced_fits
 
 pub loop-i-preserved : goal.loop-i-preserved
-loop-i-preserved c =     let a = c.args in
+loop-i-preserved c = let a = c.args in
     replaced_more a.b a.s a.words.now a.buffer.now c.loop-i.buffer c.loop-i.h c.loop-i.i c.loop-i.invariant _ _ _ _
     c.requires.0 c.power-p.ensures c.loop-i-test.true
     c.replaced-outgoing.ensures c.replaced-incoming.ensures c.roll-h.ensures

@@ -1,7 +1,6 @@
 -- `window::hash_of` meets its contract: after i turns h is the hash of the first i words.
 -- Assumes nothing.
-use Rattle.std.proofs.Common.{◌-◌, length, rules}
-use Rattle.window.proofs.Hash.{Hashed, hashed_none, hashed_more, hashed_all}
+use Rattle.window.proofs.Hash.{hashed_none, hashed_more, hashed_all}
 use Rattle.window.proofs.hash_of.Goals as goal
 
 pub loop-i-init : goal.loop-i-init

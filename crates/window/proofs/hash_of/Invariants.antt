@@ -1,7 +1,7 @@
 -- `window::hash_of` meets its contract: after i turns h is the hash of the first i words.
 -- Assumes nothing.
-use Rattle.std.proofs.Common.{◌-◌, length, rules}
-use Rattle.window.proofs.Hash.{Hashed, hashed_none, hashed_more, hashed_all}
+use Rattle.std.proofs.Common.{◌-◌, length}
+use Rattle.window.proofs.Hash.{Hashed}
 use Rattle.window.proofs.hash_of.Given as goal
 
 abbrev pub invariant-loop-i : goal.invariant-loop-i

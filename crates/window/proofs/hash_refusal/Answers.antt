@@ -1,7 +1,6 @@
 -- `window::hash_refusal` meets its contract: each return comes after the tests of the earlier causes, in the order of the table.
 -- Assumes nothing.
 use Rattle.symbol.proofs.Refusal.{causes}
-use Rattle.std.proofs.Common.{rules}
 use Rattle.window.proofs.hash_refusal.Goals as goal
 
 pub returns-then-words-gt2048 : goal.returns-then-words-gt2048

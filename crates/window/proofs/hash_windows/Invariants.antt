@@ -2,8 +2,8 @@
 -- hashes before i stand at their distance, and those of as many windows from the middle one on; near and far are the hashes at i and at
 -- half + i.
 -- Assumes nothing.
-use Rattle.std.proofs.Common.{◌-◌, rules}
-use Rattle.window.proofs.HashList.{Beside, beside_none, once_room, beside_more, beside_all}
+use Rattle.std.proofs.Common.{◌-◌}
+use Rattle.window.proofs.HashList.{Beside}
 use Rattle.window.proofs.hash_windows.Given as goal
 
 abbrev pub invariant-loop-i : goal.invariant-loop-i

@@ -1,7 +1,6 @@
 -- `window::power` meets its contract: after i turns p is the i-th power.
 -- Assumes nothing.
-use Rattle.std.proofs.Common.{◌-◌, rules}
-use Rattle.window.proofs.Hash.{Raised, raised_none, raised_more, raised_all}
+use Rattle.window.proofs.Hash.{raised_none, raised_more, raised_all}
 use Rattle.window.proofs.power.Goals as goal
 
 pub loop-i-init : goal.loop-i-init

@@ -1,7 +1,7 @@
 -- `window::power` meets its contract: after i turns p is the i-th power.
 -- Assumes nothing.
-use Rattle.std.proofs.Common.{◌-◌, rules}
-use Rattle.window.proofs.Hash.{Raised, raised_none, raised_more, raised_all}
+use Rattle.std.proofs.Common.{◌-◌}
+use Rattle.window.proofs.Hash.{Raised}
 use Rattle.window.proofs.power.Given as goal
 
 abbrev pub invariant-loop-i : goal.invariant-loop-i

@@ -1,8 +1,6 @@
 -- `window::replaced_hash` meets its contract: after i turns h is the hash of the first i words, replaced.
 -- Assumes nothing.
-use Rattle.std.proofs.Common.{◌-◌, map, length, rules}
-use Rattle.symbol.specs.Word.{replaced}
-use Rattle.window.proofs.Hash.{Hashed, hashed_none, replaced_step, replaced_hash_lem}
+use Rattle.window.proofs.Hash.{hashed_none, replaced_step, replaced_hash_lem}
 use Rattle.window.proofs.replaced_hash.Goals as goal
 
 pub loop-i-init : goal.loop-i-init

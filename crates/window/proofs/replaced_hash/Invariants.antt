@@ -1,8 +1,8 @@
 -- `window::replaced_hash` meets its contract: after i turns h is the hash of the first i words, replaced.
 -- Assumes nothing.
-use Rattle.std.proofs.Common.{◌-◌, map, length, rules}
+use Rattle.std.proofs.Common.{◌-◌, map, length}
 use Rattle.symbol.specs.Word.{replaced}
-use Rattle.window.proofs.Hash.{Hashed, hashed_none, replaced_step, replaced_hash_lem}
+use Rattle.window.proofs.Hash.{Hashed}
 use Rattle.window.proofs.replaced_hash.Given as goal
 
 abbrev pub invariant-loop-i : goal.invariant-loop-i

@@ -1,7 +1,6 @@
 -- `window::roll` meets its contract: what is left after the subtraction is congruent to the weight of the words that stay.
 -- Assumes nothing.
 use Rattle.window.proofs.Hash.{rolled}
-use Rattle.std.proofs.Common.{rules}
 use Rattle.window.proofs.roll.Goals as goal
 
 pub returns : goal.returns
