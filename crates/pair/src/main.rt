@@ -4,31 +4,17 @@
 // program ends as it does otherwise.
 #![tactic(auto)]
 
-ghost use Rattle.io.specs.Counts.{IsPrefixLen};
-
 use report::{INPUT_BYTES, REPORT_BYTES};
-use std::io::{Read, Write};
 
-// Reads until the buffer is full, the input ends or a read fails, and answers how many bytes it put at the start of the
-// buffer.
-fn read_full<R: Read>(input: &mut R, buffer: &mut [u8]) -> usize
-    ensures { IsPrefixLen result buffer.new }
-{
-    let mut done = 0;
-    while done < buffer.len() {
-        let got = input.read(&mut buffer[done..]).unwrap_or(0);
-        if got == 0 {
-            break;
-        }
-        done += got;
-    }
-    done
-}
+// The descriptors of standard input and standard output.
+const STDIN: i32 = 0;
 
-fn main(rt: HostRuntime) {
+const STDOUT: i32 = 1;
+
+fn main() {
     let mut input = [0u8; INPUT_BYTES];
-    let got = read_full(&mut rt.stdin(), &mut input);
+    let got = io::read_full(STDIN, &mut input);
     let mut output = [0u8; REPORT_BYTES];
     let count = report::report(&input, got, &mut output);
-    rt.stdout().write_all(&output[..count]).unwrap_or(());
+    io::write_all(STDOUT, &output[..count]);
 }
