@@ -23,8 +23,8 @@ struct Walk {
 fn pass_long(tiles: &[u32], count: usize, least: u32, walk: Walk) -> Walk
     requires count_in_bounds { (3 * count ≤ length tiles.now) × (covered (tiles_in count tiles.now) ≤ 2048) }
     requires walked { Walked (tiles_in count tiles.now) least walk.passed walk.words }
-    ensures walked_2 { Walked (tiles_in count tiles.now) least result.passed result.words }
-    ensures words_value { result.words ≡ covered (first_long least (tiles_in count tiles.now)) }
+    ensures walked_on { Walked (tiles_in count tiles.now) least result.passed result.words }
+    ensures words_covered { result.words ≡ covered (first_long least (tiles_in count tiles.now)) }
 {
     let mut passed = walk.passed;
     let mut words = walk.words;

@@ -133,7 +133,7 @@ fn raise_rows(ws: &[u32], pass: Pass, from: PatternAt, to: PatternAt, filter: &m
 // Hashes the windows of a stretch of the pattern, which is long enough for one, and sets their entries.
 fn enter_rows(ws: &mut [u32], pass: Pass, weight: u32, part: Rows, filter: &mut [u8; 4096])
     requires { Ranges pass × (weight ≡ weight_of pass) × Stretched (state pass.job ws.old).pattern part.from.0 part.to.0 × (pass.s ≤ part.to.0 - part.from.0) × RowsFrom pass ws.old filter.old part.to.0 }
-    ensures ws_unchanged { state pass.job ws.new ≡ state pass.job ws.old }
+    ensures state_unchanged { state pass.job ws.new ≡ state pass.job ws.old }
     ensures rows_from { RowsFrom pass ws.new filter.new part.from.0 }
 {
     let from = part.from.0;
@@ -145,7 +145,7 @@ fn enter_rows(ws: &mut [u32], pass: Pass, weight: u32, part: Rows, filter: &mut 
 // Hashes the windows of a stretch of the pattern and sets their entries; where the stretch is too short it has none.
 fn hash_row_stretch(ws: &mut [u32], pass: Pass, weight: u32, part: Rows, filter: &mut [u8; 4096])
     requires { Ranges pass × (weight ≡ weight_of pass) × Stretched (state pass.job ws.old).pattern part.from.0 part.to.0 × RowsFrom pass ws.old filter.old part.to.0 }
-    ensures ws_unchanged { state pass.job ws.new ≡ state pass.job ws.old }
+    ensures state_unchanged { state pass.job ws.new ≡ state pass.job ws.old }
     ensures rows_from { RowsFrom pass ws.new filter.new part.from.0 }
 {
     if part.to.0 - part.from.0 < pass.s {
@@ -157,7 +157,7 @@ fn hash_row_stretch(ws: &mut [u32], pass: Pass, weight: u32, part: Rows, filter:
 // Hashes the windows of the pattern that are free, stretch by stretch, and sets their entries.
 fn hash_rows(ws: &mut [u32], pass: Pass, weight: u32, filter: &mut [u8; 4096])
     requires { Space pass.job ws.old × Ranges pass × (weight ≡ weight_of pass) × (filter.old ≡ replicate 4096 0) }
-    ensures ws_unchanged { state pass.job ws.new ≡ state pass.job ws.old }
+    ensures state_unchanged { state pass.job ws.new ≡ state pass.job ws.old }
     ensures rows_from { RowsFrom pass ws.new filter.new 0 }
 {
     let mut part = bounds::rows_before(ws, pass.job, PatternAt(pass.job.n));
@@ -254,7 +254,7 @@ fn enter_texts(
     filter: &mut [u8; 4096],
 )
     requires { Ranges pass × (weight ≡ weight_of pass) × Stretched (state pass.job ws.old).text part.from.0 part.to.0 × (pass.s ≤ part.to.0 - part.from.0) × TextsFrom pass ws.old heads.old filter.old part.to.0 }
-    ensures ws_unchanged { state pass.job ws.new ≡ state pass.job ws.old }
+    ensures state_unchanged { state pass.job ws.new ≡ state pass.job ws.old }
     ensures texts_from { TextsFrom pass ws.new heads.new filter.new part.from.0 }
 {
     let from = part.from.0;
@@ -272,7 +272,7 @@ fn link_text_stretch(
     filter: &mut [u8; 4096],
 )
     requires { Ranges pass × (weight ≡ weight_of pass) × Stretched (state pass.job ws.old).text part.from.0 part.to.0 × TextsFrom pass ws.old heads.old filter.old part.to.0 }
-    ensures ws_unchanged { state pass.job ws.new ≡ state pass.job ws.old }
+    ensures state_unchanged { state pass.job ws.new ≡ state pass.job ws.old }
     ensures texts_from { TextsFrom pass ws.new heads.new filter.new part.from.0 }
 {
     if part.to.0 - part.from.0 < pass.s {
@@ -290,7 +290,7 @@ fn link_windows(
     filter: &mut [u8; 4096],
 )
     requires { Ranges pass × (weight ≡ weight_of pass) × (heads.old ≡ replicate 1024 2048) × RowsFrom pass ws.old filter.old 0 }
-    ensures ws_unchanged { state pass.job ws.new ≡ state pass.job ws.old }
+    ensures state_unchanged { state pass.job ws.new ≡ state pass.job ws.old }
     ensures texts_from { TextsFrom pass ws.new heads.new filter.new 0 }
 {
     let mut part = bounds::text_before(ws, pass.job, TextAt(pass.job.m));

@@ -243,8 +243,8 @@ pub fn report(input: &[u8], got: usize, output: &mut [u8]) -> usize
     requires prefix_len { IsPrefixLen got input.now }
     requires report_bytes_in_bounds { report_bytes ≤ length output.old }
     ensures written { Written (pair_report (take got input.now)) output.old result output.new }
-    ensures by_index { (stream : List ℕ) → ReadFrom stream got input.now → Written (pair_report stream) output.old result output.new }
-    ensures prefix_len_2 { IsPrefixLen result output.new }
+    ensures whole_stream { (stream : List ℕ) → ReadFrom stream got input.now → Written (pair_report stream) output.old result output.new }
+    ensures within_output { IsPrefixLen result output.new }
 {
     let mut words = [0u32; INPUT_WORDS];
     let count = store_words(&input[..got], &mut words);

@@ -201,7 +201,7 @@ fn taken_by(ws: &[u32], job: Job, p: PatternAt, len: usize) -> usize
 // Lays a tile and brings the record of the comparison up to date.
 fn lay_next(ws: &mut [u32], job: Job, p: PatternAt, t: TextAt, len: usize, totals: Totals) -> Totals
     requires space { Space job ws.old × (p.0 + len ≤ job.n) × (t.0 + len ≤ job.m) × OnFree job.minimum p.0 len (state job ws.old).pattern }
-    requires count_bound { (totals.count ≤ 2048) × (totals.covered ≤ 2048) × (totals.fillable ≡ fillable job.minimum (state job ws.old).pattern) }
+    requires totals_known { (totals.count ≤ 2048) × (totals.covered ≤ 2048) × (totals.fillable ≡ fillable job.minimum (state job ws.old).pattern) }
     ensures value { result ≡ laid_totals job p.0 len ws.old totals }
     ensures ws_after { ws.new ≡ laid job p.0 t.0 len ws.old }
 {

@@ -66,7 +66,7 @@ fn tell(
 ) -> Told
     requires comparable { Comparable first.now second.now minimum }
     requires in_range { InRange minimum settings.buckets settings.start }
-    requires second_in_bounds { (4 * (length first.now + length second.now) ≤ length workspace.old) × (threshold ≤ 1000) }
+    requires room_and_threshold { (4 * (length first.now + length second.now) ≤ length workspace.old) × (threshold ≤ 1000) }
     ensures value { result ≡ told_answer 0 first.now second.now minimum threshold }
     ensures workspace_after { workspace.new ≡ replicate (length workspace.old) 0 }
 {

@@ -10,8 +10,8 @@ overflow_add-words-in-loop-passed c = search passing_small
 pub loop-passed-preserved : goal.loop-passed-preserved
 loop-passed-preserved c = search (passing_more, leb-true)
 
-pub returns-else-least-tiles-clause-words_value : goal.returns-else-least-tiles-clause-words_value
-returns-else-least-tiles-clause-words_value c = search (passing_stopped, leb-false)
+pub returns-else-least-tiles-clause-words_covered : goal.returns-else-least-tiles-clause-words_covered
+returns-else-least-tiles-clause-words_covered c = search (passing_stopped, leb-false)
 
-pub returns-after-loop-passed-clause-words_value : goal.returns-after-loop-passed-clause-words_value
-returns-after-loop-passed-clause-words_value c = search passing_ended
+pub returns-after-loop-passed-clause-words_covered : goal.returns-after-loop-passed-clause-words_covered
+returns-after-loop-passed-clause-words_covered c = search passing_ended

@@ -7,8 +7,8 @@ use Rattle.index.proofs.enter_rows.Goals as goal
 pub raise_rows-requires : goal.raise_rows-requires
 raise_rows-requires c = (search rows_space, search rows_room, search rows_free, search rows_raised)
 
-pub returns-clause-ws_unchanged : goal.returns-clause-ws_unchanged
-returns-clause-ws_unchanged c = search rows_state
+pub returns-clause-state_unchanged : goal.returns-clause-state_unchanged
+returns-clause-state_unchanged c = search rows_state
 
 pub returns-clause-rows_from : goal.returns-clause-rows_from
 returns-clause-rows_from c = search rows_entered

@@ -7,8 +7,8 @@ use Rattle.index.proofs.enter_texts.Goals as goal
 pub link_stretch-requires : goal.link_stretch-requires
 link_stretch-requires c = (search texts_space, search rules, search texts_ordered, search texts_end, search texts_linked)
 
-pub returns-clause-ws_unchanged : goal.returns-clause-ws_unchanged
-returns-clause-ws_unchanged c = search texts_state
+pub returns-clause-state_unchanged : goal.returns-clause-state_unchanged
+returns-clause-state_unchanged c = search texts_state
 
 pub returns-clause-texts_from : goal.returns-clause-texts_from
 returns-clause-texts_from c = search texts_entered

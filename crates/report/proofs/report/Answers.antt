@@ -13,8 +13,8 @@ slice_bounds-from_words-end c = search stored_count
 pub returns-clause-written : goal.returns-clause-written
 returns-clause-written c = search reported
 
-pub returns-clause-by_index : goal.returns-clause-by_index
-returns-clause-by_index c = search (stream_reported, reported)
+pub returns-clause-whole_stream : goal.returns-clause-whole_stream
+returns-clause-whole_stream c = search (stream_reported, reported)
 
-pub returns-clause-prefix_len_2 : goal.returns-clause-prefix_len_2
-returns-clause-prefix_len_2 c = (search report_fits, search report_counts)
+pub returns-clause-within_output : goal.returns-clause-within_output
+returns-clause-within_output c = (search report_fits, search report_counts)

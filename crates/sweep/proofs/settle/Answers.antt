@@ -10,8 +10,8 @@ list-requires c = (search tile_fits, search rules, search text_small, search lev
 pub lay_next-requires-clause-space : goal.lay_next-requires-clause-space
 lay_next-requires-clause-space c = (search rules, search in_pattern, search in_text, search on_free)
 
-pub lay_next-requires-clause-count_bound : goal.lay_next-requires-clause-count_bound
-lay_next-requires-clause-count_bound c = (search count_small, search covered_small, search rules)
+pub lay_next-requires-clause-totals_known : goal.lay_next-requires-clause-totals_known
+lay_next-requires-clause-totals_known c = (search count_small, search covered_small, search rules)
 
 pub returns-clause-level_bound : goal.returns-clause-level_bound
 returns-clause-level_bound c = (search in_pattern, search in_text)

@@ -13,8 +13,8 @@ tell-requires-clause-comparable c = search accepted_comparable
 pub tell-requires-clause-in_range : goal.tell-requires-clause-in_range
 tell-requires-clause-in_range c = search accepted_in_range
 
-pub tell-requires-clause-second_in_bounds : goal.tell-requires-clause-second_in_bounds
-tell-requires-clause-second_in_bounds c = (search accepted_room, search accepted_threshold)
+pub tell-requires-clause-room_and_threshold : goal.tell-requires-clause-room_and_threshold
+tell-requires-clause-room_and_threshold c = (search accepted_room, search accepted_threshold)
 
 pub returns : goal.returns
 returns c = search at_least_told
