@@ -18,25 +18,28 @@ needs-check := rt
 missing = $(strip $(foreach program,$(needs-$1),$(if $(shell command -v $(program)),,$(program))))
 $(foreach goal,$(or $(MAKECMDGOALS),pair),$(if $(call missing,$(goal)),$(error make $(goal) needs what is not there: $(call missing,$(goal)))))
 
-# Has rt prove a crate and what it stands on, and build it: proving CRATE WORDS.. runs `rt WORDS..` in the folder of the crate. Each crate is named
-# as its check begins; where one fails, all that rt printed is shown. What rt said of the crate stays in target/log/CRATE.say.
+# Has rt prove a crate and what it stands on, and then build it: proving CRATE WORDS.. runs `rt check` and `rt WORDS..` in the folder of the crate.
+# Each crate is named as its check begins; where something fails, all that rt printed is shown. What rt said of the crate stays in
+# target/log/CRATE.say.
 define proving
 proving() {
 	mkdir -p target/log
 	say=$$PWD/target/log/$$1.say
-	if [ ! -e "crates/$$1/out" ]; then
-		echo "Everything is proved before it is built, crate by crate. The first time this takes a quarter of an hour."
+	built=$$PWD/target/log/$$1.built
+	if [ ! -e crates/symbol/out ]; then
+		echo "Everything is proved before it is built, crate by crate. The first time this takes some ten minutes."
 	fi
-	input=/dev/null
-	if [ -f "crates/$$1/stdin" ]; then input=stdin; fi
-	(cd "crates/$$1" && shift && rt "$$@" < "$$input") 2>&1 | tee "$$say" | sed --unbuffered -nE 's/^rt: chose .* for ([a-z0-9_]+)$$/\1/p' || { cat "$$say"; exit 1; }
+	cd "crates/$$1"
+	rt check 2>&1 | tee "$$say" | sed --unbuffered -nE 's/^rt: chose .* for ([a-z0-9_]+)$$/\1/p' || { cat "$$say"; exit 1; }
+	rt "$${@:2}" > "$$built" 2>&1 || { cat "$$built"; exit 1; }
+	cd ../..
 }
 endef
 
 # Proves and builds the pair program and all that it stands on, and runs it on the worked example.
 pair:
 	@$(proving)
-	proving pair run
+	proving pair run < crates/pair/stdin
 	mkdir -p target/bin
 	install -C -m 755 crates/pair/out/pair target/bin/pair
 	target/bin/pair < crates/pair/stdin
@@ -67,7 +70,7 @@ tool: library
 	install -C -m 755 target/cargo/release/sigxume target/bin/sigxume
 	echo "The command is target/bin/sigxume."
 
-# Proves every crate from nothing and tries every must-fail edit, then runs the tests of the library, the C example, the tool and the test program;
+# Proves every crate and tries every must-fail edit (of what an earlier run of `rt ci` on this machine passed, only what has changed), then runs the tests of the library, the C example, the tool and the test program;
 # ends with the last line of `rt ci`. An edit that does not fit the text any more counts as a failure too, which rt alone only tells.
 test:
 	@log=$$(mktemp)

@@ -44,7 +44,7 @@ pub fn input(minimum: u32, ids: [u16; 2], [first, second]: &Pair) -> Vec<u32> {
 /// What the program prints for these bytes; or why it did not run to its end.
 pub fn run(input: &[u8], pieces: Pieces) -> Result<String, String> {
     let output = process::run(&mut Command::new(PROGRAM), input, pieces).map_err(|error| {
-        format!("{PROGRAM}: {error}; run `rt check` at the top of the repository first")
+        format!("{PROGRAM}: {error}; run `make pair` at the top of the repository first")
     })?;
     if output.status.success() && output.stderr.is_empty() {
         Ok(lossy(&output.stdout))
@@ -378,8 +378,8 @@ pub fn in_pieces(g: &mut Group) {
     }
 }
 
-/// A read that fails is the end of the input, and output that cannot be written is lost. The program has
-/// no exit status to say so.
+/// A read that fails is the end of the input, and output that cannot be written is lost. The program's status
+/// does not say so.
 pub fn faults(g: &mut Group) {
     let ended = |command: &mut Command| {
         let seen = command.output().map(|ran| {
