@@ -25,7 +25,7 @@ pub record Alike (first second : List ℕ) (i : ℕ) : Type 0 where
 pub lengths_choose : (first second : List ℕ) → (length first ≡ length second → ⊥) → ltb (length first) (length second) ≡ first_is_pattern first second
 lengths_choose first second d = sym (by_length first second d)
 
-alike_none : (first second : List ℕ) → length first ≡ length second → Alike first second 0
+pub alike_none : (first second : List ℕ) → length first ≡ length second → Alike first second 0
 alike_none first second e = record { long = e; within = omega arith; chosen = by_words first second e }
 
 module _ (first second : List ℕ) (i : ℕ) (a : Alike first second i) where
