@@ -18,9 +18,9 @@ needs-check := rt
 missing = $(strip $(foreach program,$(needs-$1),$(if $(shell command -v $(program)),,$(program))))
 $(foreach goal,$(or $(MAKECMDGOALS),pair),$(if $(call missing,$(goal)),$(error make $(goal) needs what is not there: $(call missing,$(goal)))))
 
-# Has rt prove a crate and what it stands on, and then build it: proving CRATE WORDS.. runs `rt check` and `rt WORDS..` in the folder of the crate.
-# Each crate is named as its check begins; where something fails, all that rt printed is shown. What rt said of the crate stays in
-# target/log/CRATE.say.
+# Has rt prove a crate and what it stands on, and then build it: proving CRATE WORDS.. runs `rt check` and `rt WORDS..` in the folder
+# of the crate. Each crate is named as its check begins; where something fails, all that rt printed is shown. What rt said of the
+# crate stays in target/log/CRATE.say.
 define proving
 proving() {
 	mkdir -p target/log
@@ -70,8 +70,9 @@ tool: library
 	install -C -m 755 target/cargo/release/sigxume target/bin/sigxume
 	echo "The command is target/bin/sigxume."
 
-# Proves every crate and tries every must-fail edit (of what an earlier run of `rt ci` on this machine passed, only what has changed), then runs the tests of the library, the C example, the tool and the test program;
-# ends with the last line of `rt ci`. An edit that does not fit the text any more counts as a failure too, which rt alone only tells.
+# Proves every crate and tries every must-fail edit (of what an earlier run of `rt ci` on this machine passed, only what has changed),
+# then runs the tests of the library, the C example, the tool and the test program; ends with the last line of `rt ci`. An edit that
+# does not fit the text any more counts as a failure too, which rt alone only tells.
 test:
 	@log=$$(mktemp)
 	trap 'rm -f "$$log"' EXIT
@@ -83,7 +84,7 @@ test:
 	make --no-print-directory pair tool example
 	cargo test --quiet --package sigxume
 	cargo run --quiet --profile checked --bin tests
-	tail -n 1 "$$log"
+	grep -E '^[0-9]+ passed, [0-9]+ failed$$' "$$log" | tail -n 1
 
 # Times the engines beside the baselines and counts their instructions, in one run; fails where an answer differs or a promise is
 # not kept.

@@ -3,10 +3,11 @@
 
 usage: tools/respell.py [--dry]      at the top of the repository, once, over the files as port.py left them
 
-A name that a file of specs/ or proofs/ declares and that begins with a small letter loses its capitals and its dashes: `boundsFrom` becomes
-`bounds_from`, `taken-is` becomes `taken_is`; `getD` and `get_d` in such a name become `get_or`. Types, modules and what Rattle makes (goals, labels, statements)
-keep their names, and so does every function of src/. Clauses in src/, must-fail edits and the names in the pages between backticks go with them.
-It stops and writes nothing where two names would fall together or where a new name is in use already.
+A name that a file of specs/ or proofs/ declares and that begins with a small letter loses its capitals and its dashes: `boundsFrom`
+becomes `bounds_from`, `taken-is` becomes `taken_is`; `getD` and `get_d` in such a name become `get_or`. Types, modules and what
+Rattle makes (goals, labels, statements) keep their names, and so does every function of src/. Clauses in src/, must-fail edits and
+the names in the pages between backticks go with them. It stops and writes nothing where two names would fall together or where a new
+name is in use already.
 """
 
 import os
@@ -103,7 +104,7 @@ def main(argv):
         for name in tokens & table.keys():
             if table[name] in tokens:
                 bad.append(f"{path}: {name} and {table[name]} both stand here")
-    if bad and "--force" not in argv:
+    if bad:
         print("\n".join(sorted(set(bad))))
         return 1
     if "--dry" in argv:
