@@ -77,8 +77,8 @@ pub fn source(g: &mut Group) {
         g.equal(format_args!("{text:?}"), &found[..], due);
     }
     let found = body(SOURCE, "all_sound").map(|body| more_than_arithmetic(body, &[]));
-    let found = found.is_some_and(|found| found.contains(&"while"));
-    g.equal(format_args!("all_sound has a loop"), found, true);
+    let found = found.is_some_and(|found| found.contains(&"fold"));
+    g.equal(format_args!("all_sound folds"), found, true);
 }
 
 /// The instructions of a function of the archive, by their names, as objdump prints them: a line each, an address, a

@@ -9,7 +9,7 @@ use mathlib.Core.Bool.{Bool, true, false}
 use mathlib.Core.List.{List}
 use borrow.Author.Tests.{lt-ltb, le-ltb, eq-eqb, ne_eqb}
 use lib.Dec.{eqb}
-use lib.ListN.{length, take, drop, get_or, set}
+use lib.ListN.{length, take, get_or, set}
 use lib.Seq.{get_or-set_other, get_or-take}
 use Rattle.chain.specs.First.{First, Passing}
 use Rattle.chain.specs.Chain.{Free, next_of}
@@ -124,19 +124,15 @@ covering_after j ws ws' level from to bs bs' c f r = go (in_level j ws' level fr
     go true e = rw (r.kept e) fallen
     go false e = covering_refreshed j ws' (from / 32) ((to + 31) / 32) bs bs' fallen (r.anew e)
 
--- All blocks set anew.
-pub covering_all : (j : Job) (ws bs bs' : List ℕ) → Refreshed j ws 0 (block_count j) bs bs' → Covering j ws bs'
-covering_all j ws bs bs' r = record { most = λ q h. tops_row j ws q (get_or bs' (q / 32) 0) h (r.anew (q / 32) (omega arith) (omega arith)) }
-
 -- No bound exceeds the greatest of the blocks.
 pub covering_top : (j : Job) (ws bs : List ℕ) (top : ℕ) → Covering j ws bs → Greatest (λ b. get_or bs b 0) (block_count j) top → (q : ℕ) → q < j.n → bound j ws q ≤ top
 covering_top j ws bs top c g q h = omega (arith, c.most q h, g.most (q / 32) (omega arith))
 
-pub top_part : (j : Job) (bs : List ℕ) (count w r : ℕ) → length bs ≡ 64 → j.n ≤ 2048 → count ≡ block_count j → Greatest (λ k. get_or (take (count - 0) (drop 0 bs)) k 0) (length (take (count - 0) (drop 0 bs))) w → r ≡ w → Greatest (λ b. get_or bs b 0) (block_count j) r
-top_part j bs count w r n h e g k =
-    let part = greatest_part bs 0 (count - 0) w (omega arith) g in
-    let same : count - 0 ≡ block_count j = omega arith in
-    rw k (greatest_same (λ i. get_or bs (0 + i) 0) (λ b. get_or bs b 0) (block_count j) w (λ i l. let z : 0 + i ≡ i = omega arith in ap (λ y. get_or bs y 0) z) (rw same at part))
+pub top_part : (j : Job) (bs : List ℕ) (count r : ℕ) → length bs ≡ 64 → j.n ≤ 2048 → count ≡ block_count j → Greatest (λ k. get_or (take count bs) k 0) (length (take count bs)) r → Greatest (λ b. get_or bs b 0) (block_count j) r
+top_part j bs count r n h e g =
+    let part = greatest_part bs 0 count r (omega arith) g in
+    let same : count ≡ block_count j = omega arith in
+    greatest_same (λ i. get_or bs (0 + i) 0) (λ b. get_or bs b 0) (block_count j) r (λ i l. let z : 0 + i ≡ i = omega arith in ap (λ y. get_or bs y 0) z) (rw same at part)
 
 -- ---- the next row of a level
 -- A bound that was read.
@@ -207,10 +203,6 @@ module _ (Q : ℕ → Type 0) (from n p next : ℕ) (i : Passing Q from n p) (in
 
   pub past_less : n - next < n - p
   past_less = omega (arith, r.least, r.within)
-
--- What stands for a block, and was read.
-pub not_below : (bs : List ℕ) (level b w : ℕ) → w ≡ get_or bs b 0 → w < level → level ≤ get_or bs b 0 → ⊥
-not_below bs level b w e h l = omega arith
 
 pub is_above : (bs : List ℕ) (level b w : ℕ) → w ≡ get_or bs b 0 → level ≤ w → level ≤ get_or bs b 0
 is_above bs level b w e h = omega arith

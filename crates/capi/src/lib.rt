@@ -15,8 +15,8 @@ ghost use Rattle.cover.specs.Promise.{EveryMinimum};
 ghost use Rattle.threshold.specs.Promise.{AtLeast};
 
 use record::ReadAnswer;
+use refusal::Counted;
 use search::Settings;
-use symbol::Counted;
 use threshold::Told;
 use tiling::Compared;
 
@@ -52,7 +52,7 @@ pub extern "C" fn sigxume_read(src: &[u32], buffer: &mut [u32]) -> ReadAnswer
     ensures value { result ≡ read_answer src.now (length buffer.old) }
     ensures buffer_after { buffer.new ≡ read_buffer src.now buffer.old }
 {
-    record::read(src, buffer)
+    ReadAnswer::from(record::read(src, buffer))
 }
 
 // Writes the record of an id and a sequence to the start of buffer. Refused: 1, 2, 11.
@@ -61,7 +61,7 @@ pub extern "C" fn sigxume_write(id: u16, sequence: &[u32], buffer: &mut [u32]) -
     ensures value { result ≡ write_answer sequence.now (length buffer.old) }
     ensures buffer_after { buffer.new ≡ write_buffer id sequence.now buffer.old }
 {
-    record::write(id, sequence, buffer)
+    Counted::from(record::write(id, sequence, buffer))
 }
 
 // Merges the records that first and second start with, two typings of one fish, word by word to the start of buffer: the first's
@@ -72,7 +72,7 @@ pub extern "C" fn sigxume_merge(first: &[u32], second: &[u32], buffer: &mut [u32
     ensures value { result ≡ merge_answer first.now second.now (length buffer.old) }
     ensures buffer_after { buffer.new ≡ merge_buffer first.now second.now buffer.old }
 {
-    merge::merge(first, second, buffer)
+    Counted::from(merge::merge(first, second, buffer))
 }
 
 // Fills the start of buffer with the hash of each window, of replaced words, for a multiplier and a window length. Refused: 1, 2,
@@ -87,7 +87,7 @@ pub extern "C" fn sigxume_hash_list(
     ensures value { result ≡ hash_answer words.now window (length buffer.old) }
     ensures buffer_after { buffer.new ≡ hash_buffer words.now multiplier window buffer.old }
 {
-    window::hash_list(words, multiplier, window, buffer)
+    Counted::from(window::hash_list(words, multiplier, window, buffer))
 }
 
 // Compares two sequences by greedy string tiling, without a hash. The tiles go to the start of the tile buffer, and the whole
@@ -102,7 +102,7 @@ pub extern "C" fn sigxume_compare_plain(
 ) -> Compared
     ensures { Plain first.now second.now minimum workspace.old tiles.old result workspace.new tiles.new }
 {
-    plain::compare(first, second, minimum, workspace, tiles)
+    Compared::from(plain::compare(first, second, minimum, workspace, tiles))
 }
 
 // The same by Running Karp-Rabin, for any multiplier, bucket count and first search length. Refused: 1 to 7.
@@ -124,7 +124,7 @@ pub extern "C" fn sigxume_compare_fast(
         buckets,
         start,
     };
-    search::compare(first, second, minimum, settings, workspace, tiles)
+    Compared::from(search::compare(first, second, minimum, settings, workspace, tiles))
 }
 
 // What two sequences cover at every minimum: compares them at minimum 1 by Running Karp-Rabin, and fills entry k of cover, from 0
@@ -147,7 +147,7 @@ pub extern "C" fn sigxume_cover_fast(
         buckets,
         start,
     };
-    cover::every_minimum(first, second, settings, workspace, tiles, cover)
+    Compared::from(cover::every_minimum(first, second, settings, workspace, tiles, cover))
 }
 
 // Whether a comparison by Running Karp-Rabin would score at least the threshold, 1 or 0, and how many tiles it takes to tell: the
@@ -171,5 +171,5 @@ pub extern "C" fn sigxume_at_least_fast(
         buckets,
         start,
     };
-    threshold::at_least(first, second, minimum, threshold, settings, workspace)
+    Told::from(threshold::at_least(first, second, minimum, threshold, settings, workspace))
 }

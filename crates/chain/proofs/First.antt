@@ -1,6 +1,6 @@
 -- Looking for the first number that has a property, one number after another.
 -- Assumes nothing.
-use Prim.Native.Nat.{ℕ, ◌+◌, ◌-◌, ◌≤◌, ◌<◌}
+use Prim.Native.Nat.{ℕ, ◌+◌, ◌≤◌, ◌<◌}
 use native.Mathlib.Decide.{dec_lt}
 use native.Mathlib.Omega.{arith}
 use mathlib.Core.Path.{◌≡◌}
@@ -39,7 +39,3 @@ first_from Q from n i r p f =
     none : (k : ℕ) → from ≤ k → k < r → Dec (k < i) → Q k → ⊥
     none k a b (yes m) = p.none k a m
     none k a b (no m) = f.none k (omega (arith, m)) b
-
--- The next one after p is further on.
-pub first_rises : (Q : ℕ → Type 0) (p n r : ℕ) → p < n → First Q (p + 1) n r → n - r < n - p
-first_rises Q p n r h f = omega (arith, f.least, f.within)

@@ -2,15 +2,17 @@
 -- free either. A free word whose entry is 0 has free neighbours on either side, so that entries of 0 join words to one stretch.
 -- Assumes nothing.
 use Prim.Native.Nat.{ℕ, zero, suc, ◌+◌, ◌-◌, ◌/◌, ◌≤◌, ◌<◌}
+use native.Mathlib.Nat.{not-suc-le-zero, le_of_suc-le-suc}
 use native.Mathlib.Decide.{dec_lt, ℕ_discrete}
 use native.Mathlib.Omega.{arith}
 use mathlib.Core.Path.{◌≡◌, refl, sym, ◌∙◌}
 use mathlib.Core.Bool.{Bool, true, false, ◌&&◌}
-use mathlib.Core.List.{List}
+use mathlib.Core.List.{List, [], ◌∷◌}
 use borrow.Author.Tests.{eqb-true, eqb-false, eq-eqb}
 use lib.Dec.{eqb}
-use lib.ListN.{length, get_or, take, length-take}
-use lib.Seq.{get_or-take}
+use lib.ListN.{length, get_or, take, drop, length-take, length-drop}
+use lib.Seq.{get_or-take, get_or-drop, take_all}
+use Rattle.std.specs.List.{fold}
 use Rattle.chain.specs.First.{First, Last, Passing}
 use Rattle.chain.specs.Chain.{Free, next_of, before_of, gap_before, Ranged, Chained}
 use Rattle.chain.specs.Stretches.{Zeros, ZeroTail, ZerosFrom, Joined, StretchBefore}
@@ -66,43 +68,43 @@ module _ (xs es : List ℕ) (h : Chained xs es) where
   chain_back_less end before l e = omega arith
 
 -- ---- words that are 0
--- The first i of the last 16 words are all 0, or not.
-pub record Looked (ws : List ℕ) (from i : ℕ) (r : Bool) : Type 0 where
-  pub most : i ≤ 16
-  pub all : r ≡ true → (k : ℕ) → k < i → get_or ws (from + k) 0 ≡ 0
-  pub only : ((k : ℕ) → k < i → get_or ws (from + k) 0 ≡ 0) → r ≡ true
-
-pub looked_none : (ws : List ℕ) (from : ℕ) → Looked ws from 0 true
-looked_none ws from = record { most = omega arith; all = λ t k l. absurd (omega arith); only = λ z. refl }
+abbrev pub is_zero : ℕ → Bool
+is_zero w = eqb w 0
 
 both : (a b : Bool) → (a && b) ≡ true → (a ≡ true) × (b ≡ true)
 both true b e = (refl, e)
-both false b e = (e, absurd (no e))
+both false b e = cc
+
+-- A fold over all words tells whether they are all 0.
+fold_zero : (a : Bool) (ws : List ℕ) → fold (λ all w. all && is_zero w) a ws ≡ true → (a ≡ true) × ((i : ℕ) → i < length ws → get_or ws i 0 ≡ 0)
+fold_zero a [] e = (e, λ i l. absurd (not-suc-le-zero l))
+fold_zero a (w ∷ ws) e = let k = fold_zero (a && is_zero w) ws e in let b = both a (is_zero w) k.0 in (b.0, at k.1 (eqb-true w 0 b.1))
   where
-    no : false ≡ true → ⊥
-    no e = let z : ◌≡◌ {A = ℕ} 0 1 = cc in omega arith
+    at : ((i : ℕ) → i < length ws → get_or ws i 0 ≡ 0) → w ≡ 0 → (i : ℕ) → i < length (w ∷ ws) → get_or (w ∷ ws) i 0 ≡ 0
+    at k z zero l = z
+    at k z (suc i) l = k i (le_of_suc-le-suc l)
 
-of_both : (a b : Bool) → a ≡ true → b ≡ true → (a && b) ≡ true
-of_both a b e d = rw (e, d) refl
+zero_fold : (ws : List ℕ) → ((i : ℕ) → i < length ws → get_or ws i 0 ≡ 0) → fold (λ all w. all && is_zero w) true ws ≡ true
+zero_fold [] z = refl
+zero_fold (w ∷ ws) z = rw (eq-eqb w 0 (z 0 (omega arith))) (zero_fold ws (λ i l. z (suc i) (omega arith)))
 
-pub looked_more : (ws : List ℕ) (from i : ℕ) (r : Bool) → Looked ws from i r → i < 16 → Looked ws from (i + 1) (r && eqb (get_or ws (from + i) 0) 0)
-looked_more ws from i r k h =
+-- So it does with the last 16 words.
+pub block_fold : (ws : List ℕ) (r : Bool) → 16 ≤ length ws → r ≡ fold (λ all w. all && is_zero w) true (take (length ws - (length ws - 16)) (drop (length ws - 16) ws)) → Zeros ws r
+block_fold ws r h e =
     record {
-      most = omega arith;
-      all = λ t c l. all c l (ℕ_discrete c i) t;
-      only = λ z. of_both r (eqb (get_or ws (from + i) 0) 0) (k.only (λ c l. z c (omega arith))) (eq-eqb (get_or ws (from + i) 0) 0 (z i (omega arith)));
+      all = λ t i a b. let k : length ws - 16 + (i - (length ws - 16)) ≡ i = omega arith in
+          rw k at (sym (get_or-drop (length ws - 16) ws (i - (length ws - 16)) 0) ∙ (fold_zero true part (sym f ∙ t)).1 (i - (length ws - 16)) (omega (arith, long)));
+      only = λ z. f ∙ zero_fold part (λ i l. get_or-drop (length ws - 16) ws i 0 ∙ z (length ws - 16 + i) (omega arith) (omega (arith, long)));
     }
   where
-    all : (c : ℕ) → c < i + 1 → Dec (c ≡ i) → (r && eqb (get_or ws (from + i) 0) 0) ≡ true → get_or ws (from + c) 0 ≡ 0
-    all c l (yes e) t = rw e (eqb-true (get_or ws (from + i) 0) 0 (both r (eqb (get_or ws (from + i) 0) 0) t).1)
-    all c l (no d) t = k.all (both r (eqb (get_or ws (from + i) 0) 0) t).0 c (omega (arith, d))
+    part : List ℕ
+    part = drop (length ws - 16) ws
 
-pub looked_all : (ws : List ℕ) (from i : ℕ) (r : Bool) → 16 ≤ length ws → from ≡ length ws - 16 → Looked ws from i r → 16 ≤ i → Zeros ws r
-looked_all ws from i r w f k h =
-    record {
-      all = λ t c a b. let e : from + (c - from) ≡ c = omega arith in rw e at (k.all t (c - from) (omega arith));
-      only = λ z. k.only (λ c l. z (from + c) (omega arith) (omega (arith, k.most)));
-    }
+    long : length part ≡ 16
+    long = omega (arith, length-drop (length ws - 16) ws)
+
+    f : r ≡ fold (λ all w. all && is_zero w) true part
+    f = rw (take_all (length ws - (length ws - 16)) part (omega (arith, long))) at e
 
 pub tail_none : (ws : List ℕ) → ZeroTail ws (length ws)
 tail_none ws = record { within = omega arith; zero = λ i a b. absurd (omega arith) }
@@ -123,19 +125,30 @@ tail_block ws n r t h y e = record { within = omega (arith, t.within); zero = λ
         sym (get_or-take n ws i 0 l) ∙ z.all e i (omega arith) (omega arith)
     zero i a b (no l) = t.zero i (omega (arith, l)) b
 
--- One word more.
-pub tail_word : (ws : List ℕ) (n : ℕ) → ZeroTail ws n → 0 < n → eqb (get_or ws (n - 1) 0) 0 ≡ true → ZeroTail ws (n - 1)
-tail_word ws n t h m = record { within = omega (arith, t.within); zero = λ i a b. zero i a b (ℕ_discrete i (n - 1)) }
-  where
-    zero : (i : ℕ) → n - 1 ≤ i → i < length ws → Dec (i ≡ n - 1) → get_or ws i 0 ≡ 0
-    zero i a b (yes e) = rw e (eqb-true (get_or ws (n - 1) 0) 0 m)
-    zero i a b (no d) = t.zero i (omega (arith, d)) b
+-- Before the blocks, the last word that is not 0 decides.
+module _ (ws : List ℕ) (n : ℕ) (t : ZeroTail ws n) where
+  module _ (from : ℕ) (none : (k : ℕ) → from ≤ k → k < length (take n ws) → get_or (take n ws) k 0 ≡ 0) where
+    zero_at : (k : ℕ) → from ≤ k → k < length ws → Dec (k < n) → get_or ws k 0 ≡ 0
+    zero_at k a b (yes d) = sym (get_or-take n ws k 0 d) ∙ none k a (omega (arith, length-take n ws))
+    zero_at k a b (no d) = t.zero k (omega (arith, d)) b
 
-pub zeros_stop : (ws : List ℕ) (n : ℕ) → ZeroTail ws n → eqb (get_or ws (n - 1) 0) 0 ≡ false → ZerosFrom ws n
-zeros_stop ws n t m = record { within = t.within; zero = t.zero; other = λ l. eqb-false (get_or ws (n - 1) 0) 0 m }
+  pub zeros_past : (i : ℕ) → i < length (take n ws) → Free (take n ws) i → ((k : ℕ) → i < k → k < length (take n ws) → get_or (take n ws) k 0 ≡ 0) → ZerosFrom ws (i + 1)
+  zeros_past i l f none =
+      let w = length-take n ws in
+      let e : i + 1 - 1 ≡ i = omega arith in
+      record {
+        within = omega (arith, w);
+        zero = λ k a b. zero_at (i + 1) (λ k a b. none k (omega arith) b) k a b (dec_lt k n);
+        other = λ _ z. f (get_or-take n ws i 0 (omega (arith, w)) ∙ rw e at z);
+      }
 
-pub zeros_all : (ws : List ℕ) (n : ℕ) → ZeroTail ws n → n ≤ 0 → ZerosFrom ws n
-zeros_all ws n t h = record { within = t.within; zero = t.zero; other = λ l. absurd (omega arith) }
+  pub zeros_all : ((k : ℕ) → k < length (take n ws) → get_or (take n ws) k 0 ≡ 0) → ZerosFrom ws 0
+  zeros_all none =
+      record {
+        within = omega arith;
+        zero = λ k a b. zero_at 0 (λ k a b. none k b) k a b (dec_lt k n);
+        other = λ l. absurd (omega arith);
+      }
 
 -- ---- a stretch
 most : (es : List ℕ) (i : ℕ) → before_of es i ≤ i

@@ -5,7 +5,7 @@ use native.Mathlib.Omega.{arith}
 use mathlib.Core.Path.{◌≡◌, refl, ◌∙◌, ap}
 use mathlib.Core.List.{List}
 use borrow.Author.Tests.{lt-ltb, le-ltb}
-use lib.ListN.{length, set, length-set}
+use lib.ListN.{length, set}
 use Rattle.chain.specs.Chain.{gap_before, next_of, before_of, entry, Ranged}
 use Rattle.chain.specs.Unlinked.{pointed_on, pointed_back, led, mended, led_out, unlinked}
 use Rattle.chain.proofs.Links.{next_above, before_below, on_ranged}
@@ -44,40 +44,17 @@ is_within es i n r h e = omega (arith, e, r.ahead i h, r.short)
 pub is_short : (es : List ℕ) (i : ℕ) → Ranged es → i < length es → i < 2048
 is_short es i r h = omega (arith, r.short)
 
--- ---- the blocks between
-pub record Leading (before next first count : ℕ) (es₀ es : List ℕ) (i : ℕ) : Type 0 where
-  pub within : i ≤ count
-  pub room : length es ≡ length es₀
-  pub is : es ≡ led before next first i es₀
-
-pub leading_none : (before next first count : ℕ) (es : List ℕ) → Leading before next first count es es 0
+-- ---- the blocks between: block after block
+pub led_none : (before next first : ℕ) (es : List ℕ) → es ≡ led before next first (first - first) es
 unfolding led
-leading_none before next first count es = record { within = omega arith; room = refl; is = refl }
+led_none before next first es = let z : first - first ≡ 0 = omega arith in rw z refl
 
-led_more : (before next first i : ℕ) (es : List ℕ) → set (led before next first i es) (32 * (first + (i + 1))) (entry (32 * (first + (i + 1))) before next) ≡ led before next first (i + 1) es
+pub led_more : (before next first b : ℕ) (es es' es₀ : List ℕ) → first ≤ b → es ≡ led before next first (b - first) es₀ → es' ≡ set es (32 * (b + 1)) (entry (32 * (b + 1)) before next) → es' ≡ led before next first (b + 1 - first) es₀
 unfolding led
-led_more before next first i es = let s : i + 1 ≡ suc i = omega arith in rw s refl
-
-module _ (before next first count : ℕ) (es₀ es : List ℕ) (i : ℕ) (l : Leading before next first count es₀ es i) where
-  pub leading_more : i < count → (es' : List ℕ) → es' ≡ set es (32 * (first + (i + 1))) (entry (32 * (first + (i + 1))) before next) → Leading before next first count es₀ es' (i + 1)
-  leading_more h es' w =
-      record {
-        within = omega arith;
-        room = ap length w ∙ (length-set es (32 * (first + (i + 1))) (entry (32 * (first + (i + 1))) before next) ∙ l.room);
-        is = w ∙ (ap (λ xs. set xs (32 * (first + (i + 1))) (entry (32 * (first + (i + 1))) before next)) l.is ∙ led_more before next first i es₀);
-      }
-
-  pub leading_all : (at last : ℕ) → first ≡ at / 32 → count ≡ last / 32 - first → count ≤ i → es ≡ led before next (at / 32) (last / 32 - at / 32) es₀
-  leading_all at last a b h =
-      let e : i ≡ last / 32 - at / 32 = omega (arith, l.within) in
-      l.is ∙ rw (a, e) refl
-
--- The first word of a block lies between.
-pub block_last : (at last first count i : ℕ) → first ≡ at / 32 → count ≡ last / 32 - first → i < count → 32 * (first + (i + 1)) ≤ last
-block_last at last first count i a b h = omega arith
-
-pub block_above : (at first i : ℕ) → first ≡ at / 32 → at ≤ 32 * (first + (i + 1))
-block_above at first i a = omega arith
+led_more before next first b es es' es₀ h e w =
+    let s : b + 1 - first ≡ suc (b - first) = omega arith in
+    let k : first + suc (b - first) ≡ b + 1 = omega arith in
+    w ∙ rw (s, k, e) refl
 
 pub led_out_is : (es es₁ es₂ es₃ : List ℕ) (at last before next : ℕ) → es₁ ≡ set es at (entry at before next) → es₂ ≡ set es₁ last (entry last before next) → es₃ ≡ led before next (at / 32) (last / 32 - at / 32) es₂ → es₃ ≡ led_out at last before next es
 led_out_is es es₁ es₂ es₃ at last before next a b c = c ∙ rw (b, a) refl

@@ -1,17 +1,17 @@
 // The free words of a sequence as a chain: each has an entry that says where the next one stands and where the one before.
 #![tactic(auto)]
 
-ghost use Rattle.std.specs.Prelude.{◌≡◌, ◌+◌, ◌-◌, ◌/◌, ◌≤◌, ◌<◌, length, get_or, set};
+ghost use Rattle.std.specs.Prelude.{MatchOption, ℕ, ◌≡◌, ◌+◌, ◌-◌, ◌/◌, ◌≤◌, ◌<◌, length, get_or, set};
 ghost use Rattle.chain.specs.First.{First, Last};
 ghost use Rattle.chain.specs.Chain.{Free, gap_before, next_of, before_of, entry, Ranged, Chained};
 ghost use Rattle.chain.specs.Unlinked.{pointed_on, pointed_back, led, mended, led_out, unlinked};
 ghost use Rattle.chain.specs.Stretches.{Zeros, ZeroTail, ZerosFrom, Joined, StretchBefore};
 
-// A stretch of free words, and where it ends.
+// A stretch of free words: where it begins, and one past its last word.
 #[derive(Clone, Copy)]
-pub struct Stretch {
-    pub from: usize,
-    pub to: usize,
+pub struct Stretch<P> {
+    pub from: P,
+    pub to: P,
 }
 
 // Where the next free word after one stands, as its entry says; the end of the sequence where there is none.
@@ -66,12 +66,8 @@ fn lead_blocks(chain: &mut [u32], at: usize, last: usize, before: usize, next: u
     requires { (last < length chain.old) × (before ≤ at) × (at ≤ last) × (last < next) × (next ≤ 2048) }
     ensures { chain.new ≡ led before next (at / 32) (last / 32 - at / 32) chain.old }
 {
-    let first = at / 32;
-    let count = last / 32 - first;
-    let mut i = 0;
-    while i < count {
-        i += 1;
-        set_entry(chain, 32 * (first + i), before, next);
+    for block in at / 32..last / 32 {
+        set_entry(chain, 32 * (block + 1), before, next);
     }
 }
 
@@ -107,7 +103,8 @@ pub fn unlink(chain: &mut [u32], at: usize, len: usize)
     lead(chain, at, last, before, next);
 }
 
-// The first position of the chain from one on; the end of the sequence where there is none.
+// The first position of the chain from one on; the end of the sequence where there is none. The walk goes where the entries lead, so it
+// is no count.
 pub fn free_from(words: &[u32], chain: &[u32], from: usize) -> usize
     requires { Chained words.now chain.now × (from ≤ length words.now) }
     ensures { First (Free words.now) from (length words.now) result }
@@ -131,22 +128,17 @@ fn free_before(words: &[u32], chain: &[u32], to: usize) -> usize
     end
 }
 
-// Whether the last 16 words are all 0.
+// Whether the last 16 words are all 0. Every word is looked at, so that the compiler can take several at once.
 fn block_zero(words: &[u32]) -> bool
     requires { 16 ≤ length words.now }
     ensures { Zeros words.now result }
 {
     let from = words.len() - 16;
-    let mut all = true;
-    let mut i = 0;
-    while i < 16 {
-        all = all & (words[from + i] == 0);
-        i += 1;
-    }
-    all
+    words[from..].iter().fold(true, |all, w| all & (*w == 0))
 }
 
-// From where on all words are 0, in whole blocks from the end.
+// From where on all words are 0, in whole blocks from the end. (As a chain over `rchunks_exact` it was tried: the search does not find
+// that `block_zero` may be called on each block, nor the result.)
 fn zero_blocks(words: &[u32]) -> usize
     ensures { ZeroTail words.now result }
 {
@@ -157,15 +149,22 @@ fn zero_blocks(words: &[u32]) -> usize
     n
 }
 
+// The last word that is not 0.
+fn last_other(words: &[u32]) -> Option<usize>
+    ensures { MatchOption result ((k : ℕ) → k < length words.now → get_or words.now k 0 ≡ 0) (λ i. (i < length words.now) × Free words.now i × ((k : ℕ) → i < k → k < length words.now → get_or words.now k 0 ≡ 0)) }
+{
+    words.iter().rposition(|w| *w != 0)
+}
+
 // From where on all words are 0.
 fn zeros_from(words: &[u32]) -> usize
     ensures { ZerosFrom words.now result }
 {
-    let mut n = zero_blocks(words);
-    while 0 < n && words[n - 1] == 0 {
-        n -= 1;
+    let n = zero_blocks(words);
+    match last_other(&words[..n]) {
+        Some(i) => i + 1,
+        None => 0,
     }
-    n
 }
 
 // Where the stretch begins that ends with a free word: the words before it are joined to it as long as each has its neighbours for its
@@ -185,7 +184,7 @@ fn joined_from(chain: &[u32], last: usize) -> usize
 }
 
 // The last stretch of free words before a position; an empty one at 0 where there is none.
-pub fn stretch_before(words: &[u32], chain: &[u32], end: usize) -> Stretch
+pub fn stretch_before(words: &[u32], chain: &[u32], end: usize) -> Stretch<usize>
     requires { Chained words.now chain.now × (end ≤ length words.now) }
     ensures { StretchBefore words.now end result.from result.to }
 {

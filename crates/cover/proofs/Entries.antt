@@ -10,7 +10,7 @@ use Rattle.buffer.specs.Buffer.{onto, tabulate}
 use Rattle.buffer.proofs.Buffer.{Filling, filling_none, filling_more, filling_all}
 use Rattle.tiling.specs.Listing.{covered}
 use Rattle.tiling.specs.Demand.{tiles_in}
-use Rattle.cover.specs.Walked.{first_long, cover_of, Walked}
+use Rattle.cover.specs.Walked.{cover_of, Walked}
 
 pub record Entered (tiles : List ℕ) (count : ℕ) (e₀ e : List ℕ) (minimum passed words : ℕ) : Type 0 where
   pub whole : 3 * count ≤ length tiles
@@ -28,18 +28,16 @@ entered_none tiles count e whole few room =
     }
 
 module _ (tiles : List ℕ) (count : ℕ) (e₀ e : List ℕ) (minimum passed words : ℕ) (r : Entered tiles count e₀ e minimum passed words) where
-  pub entered_room : 0 < minimum → minimum - 1 < length e
-  entered_room some = omega (arith, r.filling.room, r.filling.same, r.filling.within)
+  pub entered_walk : 0 < minimum → Walked (tiles_in count tiles) (minimum - 1 + 1) passed words
+  entered_walk some = let m : minimum - 1 + 1 ≡ minimum = omega arith in rw m r.walked
 
-  pub entered_more : 0 < minimum → (passed' words' : ℕ) → Walked (tiles_in count tiles) minimum passed' words' → words' ≡ covered (first_long minimum (tiles_in count tiles)) → (e' : List ℕ) → e' ≡ set e (minimum - 1) words' → Entered tiles count e₀ e' (minimum - 1) passed' words'
-  entered_more some passed' words' w k e' s =
-      let m : minimum - 1 + 1 ≡ minimum = omega arith in
-      let v : words' ≡ cover_of (tiles_in count tiles) (minimum - 1) = rw m k in
+  pub entered_more : 0 < minimum → (passed' words' : ℕ) → Walked (tiles_in count tiles) (minimum - 1 + 1) passed' words' → words' ≡ cover_of (tiles_in count tiles) (minimum - 1) → Entered tiles count e₀ (set e (minimum - 1) words') (minimum - 1) passed' words'
+  entered_more some passed' words' w v =
       record {
         whole = r.whole;
         few = r.few;
         walked = record { within = w.within; sum = λ n h. w.sum n (omega arith) };
-        filling = rw s (filling_more (cover_of (tiles_in count tiles)) 256 e₀ e minimum r.filling some words' v);
+        filling = filling_more (cover_of (tiles_in count tiles)) 256 e₀ e minimum r.filling some words' v;
       }
 
   pub entered_all : minimum ≤ 0 → e ≡ onto (tabulate (cover_of (tiles_in count tiles)) 256) e₀

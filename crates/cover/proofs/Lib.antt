@@ -1,5 +1,4 @@
 pub mod Known
 pub mod Walking
 pub mod Entries
-pub mod Refusal
 pub mod Accepted

@@ -60,6 +60,10 @@ module _ (tiles : List ℕ) (count least passed words : ℕ) (w : Passing tiles 
             };
       }
 
+  -- Behind the last tile all are passed.
+  pub passing_through : count ≤ passed → Walked all least count words
+  passing_through h = let e : passed ≡ count = omega (arith, w.walked.within, length_tiles_in count tiles) in rw e at w.walked
+
   -- The walk ends at a tile that is shorter, or behind the last.
   nothing_left : covered (first_long least (drop passed all)) ≡ 0 → words ≡ covered (first_long least all)
   nothing_left e = omega (arith, w.walked.sum least (omega arith), e)

@@ -1,7 +1,7 @@
 -- What two sequences cover at every minimum (02, U1), for any input: "Run a pair at minimum 1 and fill a lent buffer whose entry k, from
 -- 0 to 255, holds the covered count at minimum k + 1."
 use Rattle.std.specs.Prelude.{ℕ, ◌+◌, ◌≡◌, List, ltb, length}
-use Rattle.symbol.specs.Refusal.{refuse, outcome}
+use Rattle.refusal.specs.Refusal.{refuse, outcome}
 use Rattle.buffer.specs.Buffer.{onto, tabulate}
 use Rattle.tiling.specs.Listing.{listing, covered}
 use Rattle.tiling.specs.Comparing.{fast_checks}

@@ -40,10 +40,7 @@ pub record Opened (first second : List ℕ) (minimum : ℕ) (ws : List ℕ) (j :
 abbrev pub no_tiles : Job → Goal → Totals
 no_tiles j goal = record { count = 0; covered = 0; fillable = if_long j.minimum j.n; goal = goal }
 
--- The answer of a refusal, and that of tiles that were laid.
-abbrev pub refused_by : ℕ → Compared
-refused_by r = record { refusal = r; tiles = 0; covered = 0; score = 0 }
-
+-- The answer of tiles that were laid.
 abbrev pub answer_of : ℕ → Totals → Compared
 answer_of total k = record { refusal = 0; tiles = k.count; covered = k.covered; score = score k.covered total }
 

@@ -3,15 +3,16 @@
 // another and knows nothing of either.
 #![tactic(auto)]
 
-ghost use Rattle.std.specs.Prelude.{◌≡◌, ◌++◌, map, ◌+◌, ◌*◌, ◌≤◌, length, replicate};
+ghost use Rattle.std.specs.Prelude.{◌≡◌, ◌++◌, map, ◌+◌, ◌*◌, ◌≤◌, length, drop, replicate, Ok};
 ghost use Rattle.symbol.specs.Word.{replaced};
 ghost use Rattle.buffer.specs.Buffer.{onto};
-ghost use Rattle.tiling.specs.Choice.{first_is_pattern};
-ghost use Rattle.ends.specs.Ends.{whole_goal, begun, Opened, no_tiles, refused_by, Closed};
+ghost use Rattle.tiling.specs.Choice.{first_by_words, first_is_pattern};
+ghost use Rattle.tiling.specs.Outcome.{compared_as};
+ghost use Rattle.ends.specs.Ends.{whole_goal, begun, Opened, no_tiles, Closed};
 
 use bounds::Job;
 use sweep::{Goal, Totals};
-use tiling::Compared;
+use tiling::Summary;
 
 // Whether the first sequence is the pattern: the shorter one is, and of equal lengths the one with the smaller word, as it stands, at the first
 // position where they differ. Of equal sequences it is the first. The calls that both begin with are passed over block by block.
@@ -21,16 +22,16 @@ fn first_is_pattern(first: &[u32], second: &[u32]) -> bool
     if first.len() != second.len() {
         return first.len() < second.len();
     }
-    let mut i = measure::longer_run(first, second, 0);
-    while i < first.len() {
-        let a = first[i];
-        let b = second[i];
-        if a != b {
-            return a < b;
-        }
-        i += 1;
-    }
-    true
+    let run = measure::longer_run(first, second, 0);
+    rest_chooses(first, second, run)
+}
+
+// The same of two sequences of one length whose first words, as many as the run has, are equal: the rest of them is compared as lists are.
+fn rest_chooses(first: &[u32], second: &[u32], run: usize) -> bool
+    requires { (run ≤ length first.now) × (length first.now ≡ length second.now) }
+    ensures { result ≡ first_by_words (drop run first.now) (drop run second.now) }
+{
+    first[run..].cmp(&second[run..]).is_le()
 }
 
 // Copies words to the start of a buffer, each of them replaced. Most sequences have no retired code.
@@ -42,10 +43,8 @@ fn copy_replaced(words: &[u32], buffer: &mut [u32])
         buffer::copy(words, buffer);
         return;
     }
-    let mut i = 0;
-    while i < words.len() {
-        buffer[i] = symbol::replaced(words[i]);
-        i += 1;
+    for (i, word) in words.iter().enumerate() {
+        buffer[i] = symbol::replaced(*word);
     }
 }
 
@@ -116,18 +115,6 @@ pub fn unlaid(job: Job, goal: Goal) -> Totals
     }
 }
 
-// The answer of a comparison that is refused.
-pub fn refused(refusal: u32) -> Compared
-    ensures { result ≡ refused_by refusal }
-{
-    Compared {
-        refusal,
-        tiles: 0,
-        covered: 0,
-        score: 0,
-    }
-}
-
 // Clears the whole workspace.
 pub fn clear(ws: &mut [u32])
     ensures { ws.new ≡ replicate (length ws.old) 0 }
@@ -137,16 +124,15 @@ pub fn clear(ws: &mut [u32])
 }
 
 // Clears the whole workspace and answers what the tiles come to, of sequences with total words together.
-pub fn close(ws: &mut [u32], total: usize, totals: Totals) -> Compared
+pub fn close(ws: &mut [u32], total: usize, totals: Totals) -> Summary
     requires { (totals.count ≤ 2048) × (totals.covered ≤ 2048) × (total ≤ 4096) }
-    ensures { Closed total totals ws.old result ws.new }
+    ensures { Closed total totals ws.old (compared_as (Ok result)) ws.new }
 {
     clear(ws);
     let tiles = totals.count as u32;
     let covered = totals.covered as u32;
     let score = tile::score_of(totals.covered, total);
-    Compared {
-        refusal: 0,
+    Summary {
         tiles,
         covered,
         score,

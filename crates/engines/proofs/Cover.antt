@@ -33,7 +33,7 @@ module _ {first second : List ℕ} (buckets start : ℕ) {ws b es : List ℕ} {a
   number = answers_number c.compares z
 
   accepted_here : Accepted first second buckets start (length ws) (length b) (length es)
-  accepted_here = accepted first second buckets start (length ws) (length b) (length es) 0 (sym number) refl
+  accepted_here = accepted first second buckets start (length ws) (length b) (length es) (sym number)
 
   -- "The tile buffer and the reply are that run's": it is a call of the fast engine at minimum 1.
   pub cover_promise : Promise (fast buckets start) first second 1 ws b a ws' b'

@@ -10,7 +10,7 @@ use mathlib.Core.List.{List}
 use lib.Dec.{eqb, ltb}
 use lib.ListN.{length}
 use Rattle.symbol.specs.Sequence.{all_sound, too_long}
-use Rattle.symbol.specs.Refusal.{refuse}
+use Rattle.refusal.specs.Refusal.{refuse}
 use Rattle.tiling.specs.Each.{Each}
 use Rattle.tiling.specs.Greedy.{Begins}
 use Rattle.tiling.specs.Comparing.{sequences, minimums, room, plain_refusal, fast_refusal, Comparable, Roomy}

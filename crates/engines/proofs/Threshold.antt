@@ -34,7 +34,7 @@ module _ {first second : List ℕ} {minimum : ℕ} (buckets start : ℕ) {thresh
   can = comparable first second minimum _ number
 
   low : threshold ≤ 1000
-  low = accepted_threshold first second minimum buckets start threshold (length ws) 0 (sym number) refl
+  low = accepted_threshold first second minimum buckets start threshold (length ws) number
 
   pub threshold_reached : a.reached ≡ one (is_reached first second minimum threshold)
   threshold_reached = ap (λ x. x.reached) answer_is

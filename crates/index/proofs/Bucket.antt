@@ -3,9 +3,7 @@
 use Prim.Native.Nat.{ℕ, ◌*◌, ◌/◌, ◌%◌, ◌^◌, ◌≤◌, ◌<◌}
 use native.Mathlib.Nat.{mod-lt}
 use native.Mathlib.Omega.{arith}
-use mathlib.Core.Path.{◌≡◌, refl, ◌∙◌}
-use mathlib.Core.List.{List}
-use lib.ListN.{get_or, set}
+use mathlib.Core.Path.{◌≡◌, refl}
 use Rattle.window.specs.Hash.{bucket}
 use Rattle.index.specs.Indexed.{slot, place}
 
@@ -37,13 +35,3 @@ place_is k h e = rw e refl
 
 pub place_small : (k : ℕ) → k < 4096 → k / 4 < 1024
 place_small k l = omega arith
-
-pub entry_at : (filter : List ℕ) (i h : ℕ) → i ≡ slot h → get_or filter i 0 ≡ get_or filter (slot h) 0
-entry_at filter i h e = rw e refl
-
-module _ (filter filter' : List ℕ) (i h v : ℕ) (e : i ≡ slot h) where
-  pub entered_at : filter' ≡ set filter i v → filter' ≡ set filter (slot h) v
-  entered_at w = w ∙ rw e refl
-
-  pub entered_known : get_or filter' i 0 ≡ v → get_or filter' (slot h) 0 ≡ v
-  entered_known w = rw (← e) w

@@ -27,7 +27,7 @@ use Rattle.bounds.specs.Workspace.{Space, state}
 use Rattle.bounds.specs.declared.Job.{Job}
 use Rattle.bounds.proofs.Workspace.{text_length}
 use Rattle.index.specs.Built.{free_at, AllFree, listed}
-use Rattle.index.specs.declared.Pass.{Pass}
+use Rattle.index.specs.declared.pass.Pass.{Pass}
 
 run_free : (ps ts : List ℕ) → run ps ts ≤ run ts ts
 run_free ps ts =

@@ -14,8 +14,8 @@ use Rattle.tiling.proofs.Marked.{lay_shrinks}
 use Rattle.bounds.specs.Workspace.{state, bounds_from, chains_from, marked, laid}
 use Rattle.bounds.specs.declared.Job.{Job}
 use Rattle.bounds.proofs.Workspace.{state_set, below_chains, state_laid}
-use Rattle.index.specs.Indexed.{pattern_hash, text_hash, link, Ranges, Indexed, Filtered}
-use Rattle.index.specs.declared.Pass.{Pass}
+use Rattle.index.specs.Indexed.{pattern_hash, text_hash, link, Indexed, Filtered}
+use Rattle.index.specs.declared.pass.Pass.{Pass}
 
 -- A run begins within both sequences.
 pub row_inside : (j : Job) (ws : List ℕ) (p u : ℕ) → 1 ≤ run_at (state j ws) p u → p < j.n
@@ -59,11 +59,11 @@ indexed_kept x ws ws' heads c i =
     inside_text : (p u : ℕ) → x.s ≤ run_at (state x.job ws') p u → u < x.job.m
     inside_text p u h = column_inside x.job ws' p u (omega (arith, h, i.least))
 
-pub filtered_kept : (x : Pass) (ws ws' filter : List ℕ) → Ranges x → Kept x.job ws ws' → Filtered x ws filter → Filtered x ws' filter
-filtered_kept x ws ws' filter r c f =
+pub filtered_kept : (x : Pass) (ws ws' filter : List ℕ) → Kept x.job ws ws' → Filtered x ws filter → Filtered x ws' filter
+filtered_kept x ws ws' filter c f =
     record {
       known = λ p u h.
-          rw (c.of_pattern p (row_inside x.job ws' p u (omega (arith, h, r.one)))) (f.known p u (omega (arith, h, c.shrinks p u)));
+          rw (c.of_pattern p (row_inside x.job ws' p u (omega (arith, h, x.one)))) (f.known p u (omega (arith, h, c.shrinks p u)));
     }
 
 -- A new bound.

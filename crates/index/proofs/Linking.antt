@@ -18,9 +18,9 @@ use Rattle.window.specs.Hash.{bucket}
 use Rattle.bounds.specs.Workspace.{Space, state, bounds_from, chains_from}
 use Rattle.bounds.specs.declared.Job.{Job}
 use Rattle.bounds.proofs.Workspace.{state_set, space_kept}
-use Rattle.index.specs.Indexed.{pattern_hash, text_hash, link, slot, Ranges}
+use Rattle.index.specs.Indexed.{pattern_hash, text_hash, link, slot}
 use Rattle.index.specs.Built.{free_at, raises, raised_from, listed, in_bucket, next_in, linked_from, entry_of, takes, Entered, LinkedFrom, Linked}
-use Rattle.index.specs.declared.Pass.{Pass}
+use Rattle.index.specs.declared.pass.Pass.{Pass}
 use Rattle.index.proofs.Bucket.{bucket_below, slot_below}
 use Rattle.index.proofs.First.{first_least, first_same, next_here, next_later, some_here, some_later, some_same}
 use Rattle.index.proofs.Free.{free_same}
@@ -72,19 +72,18 @@ module _ (x : Pass) (t free : ℕ) (ws hs fs : List ℕ) (long : x.s ≤ free) (
       let k : takes x free (get_or fs (slot (text_hash x.job ws t)) 0) ≡ false = rw (← entry, z, le-leb x.s free long) refl in
       record { words = rw k refl; heads = rw k refl; filter = rw k refl; known = λ y. absurd (let o : ◌≡◌ {A = ℕ} 0 1 = (let f : false ≡ true = sym k ∙ y in cc) in omega arith) }
 
-  pub entered_new : (e ≡ 0 → ⊥) → (b : ℕ) → b ≡ bucket x.buckets h → (head : ℕ) → head ≡ get_or hs b 0 → (ws' hs' fs' : List ℕ) → ws' ≡ set ws (bounds_from x.job + x.job.n + t) head → hs' ≡ set hs b t → fs' ≡ set fs (slot h) 2 → get_or fs' (slot h) 0 ≡ 2 → Entered x t free ws hs fs ws' hs' fs'
-  entered_new some b eb head first ws' hs' fs' ew eh' ef' known =
-      let k : takes x free (get_or fs (slot (text_hash x.job ws t)) 0) ≡ true = rw (← entry, le-leb x.s free long) (lt-ltb 0 e (omega (arith, some))) in
+  pub entered_new : (e ≡ 0 → ⊥) → (b : ℕ) → b ≡ bucket x.buckets h → (k : ℕ) → k ≡ slot h → k < length fs → (ws' : List ℕ) → ws' ≡ set ws (bounds_from x.job + x.job.n + t) (get_or hs b 0) → Entered x t free ws hs fs ws' (set hs b t) (set fs k 2)
+  entered_new some b eb k ek room ws' ew =
+      let taken : takes x free (get_or fs (slot (text_hash x.job ws t)) 0) ≡ true = rw (← entry, le-leb x.s free long) (lt-ltb 0 e (omega (arith, some))) in
       let c : b ≡ bucket x.buckets (text_hash x.job ws t) = eb ∙ ap (bucket x.buckets) eh in
-      record { words = rw (k, ← c, ← first) ew; heads = rw (k, ← c) eh'; filter = rw (k, ← eh) ef'; known = λ y. rw (← eh) known }
+      let d : k ≡ slot (text_hash x.job ws t) = ek ∙ ap slot eh in
+      record { words = rw (taken, ← c) ew; heads = rw (taken, ← c) refl; filter = rw (taken, ← d) refl; known = λ y. rw (← d) (get_or-set_same fs k 2 0 room) }
 
 -- ---- the windows of a stretch that begins at `from`
 pub record Backward (x : Pass) (from : ℕ) (ws₀ ws hs fs : List ℕ) (t free : ℕ) : Type 0 where
   pub low : from ≤ t
   pub within : t ≤ x.job.m
-  pub ranges : Ranges x
   pub space : Space x.job ws
-  pub room : length ws ≡ length ws₀
   pub same : state x.job ws ≡ state x.job ws₀
   pub of_pattern : (p : ℕ) → p < x.job.n → pattern_hash x.job ws p ≡ pattern_hash x.job ws₀ p
   pub of_text : (u : ℕ) → u < x.job.m → text_hash x.job ws u ≡ text_hash x.job ws₀ u
@@ -93,14 +92,12 @@ pub record Backward (x : Pass) (from : ℕ) (ws₀ ws hs fs : List ℕ) (t free 
   pub entries : (i : ℕ) → i < 4096 → get_or fs i 0 ≡ entry_of (raised_from x ws₀ i 0) (linked_from x ws₀ i t)
   pub count : free ≡ free_at x.job ws t
 
-pub backward_none : (x : Pass) (from : ℕ) (ws hs fs : List ℕ) (t : ℕ) → Space x.job ws → Ranges x → from ≤ t → 0 ≡ free_at x.job ws t → LinkedFrom x ws hs fs t → Backward x from ws ws hs fs t 0
-backward_none x from ws hs fs t space ranges low none r =
+pub backward_none : (x : Pass) (from : ℕ) (ws hs fs : List ℕ) (t : ℕ) → Space x.job ws → from ≤ t → 0 ≡ free_at x.job ws t → LinkedFrom x ws hs fs t → Backward x from ws ws hs fs t 0
+backward_none x from ws hs fs t space low none r =
     record {
       low = low;
       within = r.within;
-      ranges = ranges;
       space = space;
-      room = refl;
       same = refl;
       of_pattern = λ p l. refl;
       of_text = λ u l. refl;
@@ -140,7 +137,7 @@ module _ (x : Pass) (from : ℕ) (ws₀ ws hs fs : List ℕ) (t after free : ℕ
   same_bucket = ap (bucket x.buckets) same_hash
 
   small : b < 1024
-  small = bucket_below x.buckets h i.ranges.some_bucket i.ranges.few_buckets
+  small = bucket_below x.buckets h x.some_bucket x.few_buckets
 
   -- The window is linked just where the definition says so.
   taken : takes x free (get_or fs (slot h) 0) ≡ listed x ws₀ t
@@ -177,9 +174,7 @@ module _ (x : Pass) (from : ℕ) (ws₀ ws hs fs : List ℕ) (t after free : ℕ
         record {
           low = low;
           within = omega arith;
-          ranges = i.ranges;
           space = i.space;
-          room = i.room;
           same = i.same;
           of_pattern = i.of_pattern;
           of_text = i.of_text;
@@ -254,9 +249,7 @@ module _ (x : Pass) (from : ℕ) (ws₀ ws hs fs : List ℕ) (t after free : ℕ
         record {
           low = low;
           within = omega arith;
-          ranges = i.ranges;
           space = space_kept j ws ws' same state_linked tail_linked (λ q l. elsewhere (bounds_from j + q) (λ y. omega arith)) i.space;
-          room = same ∙ i.room;
           same = state_linked ∙ i.same;
           of_pattern = λ p l. elsewhere (j.n + j.m + p) (λ z. omega arith) ∙ i.of_pattern p l;
           of_text = λ u l. elsewhere (j.n + j.m + j.n + u) (λ z. omega arith) ∙ i.of_text u l;
@@ -284,10 +277,10 @@ module _ (x : Pass) (from : ℕ) (ws₀ ws hs fs : List ℕ) (t free : ℕ) (i :
     pub backward_free : free ≡ free_at x.job ws (t - 1 + 1)
     backward_free = rw back i.count
 
-    pub backward_more : (r : ℕ) → r ≡ free_at x.job ws (t - 1) → (ws' hs' fs' : List ℕ) → Entered x (t - 1) r ws hs fs ws' hs' fs' → length ws' ≡ length ws → Backward x from ws₀ ws' hs' fs' (t - 1) r
-    backward_more r f ws' hs' fs' e same =
+    pub backward_more : (x' : Pass) → x' ≡ x → (r : ℕ) → r ≡ free_at x.job ws (t - 1) → (ws' hs' fs' : List ℕ) → Entered x (t - 1) r ws hs fs ws' hs' fs' → length ws' ≡ length ws → Backward x' from ws₀ ws' hs' fs' (t - 1) r
+    backward_more x' k r f ws' hs' fs' e same =
         let now : Backward x from ws₀ ws hs fs (t - 1 + 1) free = rw back i in
-        stepped x from ws₀ ws hs fs (t - 1) free r now (omega arith) backward_inside f ws' hs' fs' e same
+        rw k (stepped x from ws₀ ws hs fs (t - 1) free r now (omega arith) backward_inside f ws' hs' fs' e same)
 
   pub backward_all : t ≤ from → Linked x ws₀ ws hs fs from
   backward_all none =

@@ -16,9 +16,8 @@ use Rattle.window.proofs.HashList.{length_hashes, get_or_hashes, hash_current}
 use Rattle.bounds.specs.Workspace.{Space, state, bounds_from, chains_from}
 use Rattle.bounds.specs.declared.Job.{Job}
 use Rattle.bounds.proofs.Workspace.{front_state, space_kept}
-use Rattle.index.specs.Indexed.{Ranges}
 use Rattle.index.specs.Built.{PartHashed}
-use Rattle.index.specs.declared.Pass.{Pass}
+use Rattle.index.specs.declared.pass.Pass.{Pass}
 
 -- ---- words put into a list from a position on
 module _ (ws front ws' : List ℕ) (a : ℕ) (room : a + length front ≤ length ws) (made : ws' ≡ take a ws ++ onto front (drop a ws)) where
@@ -54,8 +53,8 @@ module _ (ws front ws' : List ℕ) (a : ℕ) (room : a + length front ≤ length
       rw e at there
 
 -- ---- what hashing a part does
-pub part_hashed : (x : Pass) (from count : ℕ) (ws part : List ℕ) → Space x.job ws → Ranges x → x.s ≤ count → from + count ≤ x.job.n + x.job.m → part ≡ take (x.job.n + x.job.m) (take (length ws - from) (drop from ws)) ++ onto (hashes_by (words_hash x.multiplier) x.s (take count (take (length ws - from) (drop from ws)))) (drop (x.job.n + x.job.m) (take (length ws - from) (drop from ws))) → PartHashed x from count ws (take from ws ++ (part ++ drop (length ws - from) (drop from ws)))
-part_hashed x from count ws part space ranges long fits e =
+pub part_hashed : (x : Pass) (from count : ℕ) (ws part : List ℕ) → Space x.job ws → x.s ≤ count → from + count ≤ x.job.n + x.job.m → part ≡ take (x.job.n + x.job.m) (take (length ws - from) (drop from ws)) ++ onto (hashes_by (words_hash x.multiplier) x.s (take count (take (length ws - from) (drop from ws)))) (drop (x.job.n + x.job.m) (take (length ws - from) (drop from ws))) → PartHashed x from count ws (take from ws ++ (part ++ drop (length ws - from) (drop from ws)))
+part_hashed x from count ws part space long fits e =
     record {
       room = put_length ws front ws' a roomy made;
       before = λ i l. put_before ws front ws' a roomy made i (omega arith);
@@ -88,7 +87,7 @@ part_hashed x from count ws part space ranges long fits e =
     many = omega (arith, length_hashes x.multiplier x.s words, words_are)
 
     roomy : a + length front ≤ length ws
-    roomy = omega (arith, many, space.roomy, ranges.one)
+    roomy = omega (arith, many, space.roomy, x.one)
 
     made : ws' ≡ take a ws ++ onto front (drop a ws)
     made =
@@ -109,7 +108,7 @@ part_hashed x from count ws part space ranges long fits e =
         ∙ (take-take x.s (count - k) (drop k (drop from ws)) (omega arith) ∙ ap (take x.s) (drop-drop k from ws))
 
 -- ---- and what it leaves
-module _ (x : Pass) (from count : ℕ) (ws ws' : List ℕ) (h : PartHashed x from count ws ws') (space : Space x.job ws) (ranges : Ranges x) (fits : from + count ≤ x.job.n + x.job.m) where
+module _ (x : Pass) (from count : ℕ) (ws ws' : List ℕ) (h : PartHashed x from count ws ws') (space : Space x.job ws) (fits : from + count ≤ x.job.n + x.job.m) where
   abbrev j : Job
   j = x.job
 
@@ -127,7 +126,7 @@ module _ (x : Pass) (from count : ℕ) (ws ws' : List ℕ) (h : PartHashed x fro
   part_state = front_state j ws ws' same_front
 
   pub part_later : (i : ℕ) → bounds_from j ≤ i → get_or ws' i 0 ≡ get_or ws i 0
-  part_later i l = h.after i (omega (arith, ranges.one))
+  part_later i l = h.after i (omega (arith, x.one))
 
   same_tail : drop (chains_from j) ws' ≡ drop (chains_from j) ws
   same_tail =

@@ -11,12 +11,10 @@ use Rattle.chain.specs.Stretches.{StretchBefore}
 use Rattle.index.specs.Built.{AllFree, Stretched}
 use Rattle.index.proofs.Free.{Busy, busy_by, not_free}
 
--- Where a walk over the stretches stands: at a stretch, unless there is none left.
-pub record Walk (xs : List ℕ) (from to : ℕ) : Type 0 where
-  pub within : from ≤ length xs
-  pub apart : from ≤ to - 1
-  pub here : 0 < to → Stretched xs from to
-  pub edge : 0 < from → Free xs (from - 1) → ⊥
+-- Where a walk over the stretches stands: before this position nothing was visited. It is the end of the sequence, or a stretch begins there.
+pub record Walk (xs : List ℕ) (end : ℕ) : Type 0 where
+  pub within : end ≤ length xs
+  pub edge : 0 < end → end < length xs → Free xs (end - 1) → ⊥
 
 -- No window begins between two stretches that is free.
 pub busy_between : (s : ℕ) (xs : List ℕ) (end from to : ℕ) → 1 ≤ s → StretchBefore xs end from to → (q : ℕ) → to ≤ q → q < end → Busy s xs q
@@ -34,39 +32,27 @@ free_within s xs q least free = go (dec_lt q (length xs))
     go (yes l) = l
     go (no l) = absurd (not_free s xs q (busy_by s xs q q (omega arith) (omega arith) (end_marked xs q (omega (arith, l)))) free)
 
--- A stretch begins before its end; where there is none both are 0.
-stretch_apart : (xs : List ℕ) (end from to : ℕ) → StretchBefore xs end from to → from ≤ to - 1
-stretch_apart xs end from to b = go (ℕ_discrete to 0)
-  where
-    go : Dec (to ≡ 0) → from ≤ to - 1
-    go (yes d) = omega (arith, d, b.ordered)
-    go (no d) = omega (arith, d, b.some (omega (arith, d)))
+pub walk_first : (xs : List ℕ) (end : ℕ) → end ≡ length xs → Walk xs end
+walk_first xs end e = record { within = omega arith; edge = λ some l. absurd (omega (arith, e, l)) }
 
--- A stretch that a walk has come to, where the word at its end is not free.
-walk_by : (xs : List ℕ) (end from to : ℕ) → end ≤ length xs → (0 < to → to ≡ end → Free xs to → ⊥) → StretchBefore xs end from to → Walk xs from to
-walk_by xs end from to inside last b =
-    record {
-      within = omega (arith, b.ordered, b.within);
-      apart = stretch_apart xs end from to b;
-      here = λ some.
-          record {
-            some = b.some some;
-            within = omega (arith, b.within);
-            free = b.free;
-            closed = closed some (ℕ_discrete to end);
-          };
-      edge = b.edge;
-    }
-  where
-    closed : 0 < to → Dec (to ≡ end) → Free xs to → ⊥
-    closed some (yes d) = last some d
-    closed some (no d) = b.past to (omega arith) (omega (arith, d, b.within))
+module _ (xs : List ℕ) (end from to : ℕ) (w : Walk xs end) (b : StretchBefore xs end from to) where
+  -- The word at the end of a stretch is not free, for the stretch behind it begins later.
+  pub walk_here : 0 < to → Stretched xs from to
+  walk_here some =
+      record {
+        some = b.some some;
+        within = omega (arith, b.within, w.within);
+        free = b.free;
+        closed = closed (ℕ_discrete to end) (dec_lt end (length xs));
+      }
+    where
+      closed : Dec (to ≡ end) → Dec (end < length xs) → Free xs to → ⊥
+      closed (yes d) (yes l) free =
+          let e : to - 1 ≡ end - 1 = omega (arith, d) in
+          w.edge (omega (arith, d)) l (rw e at (b.free (to - 1) (omega (arith, b.some some)) (omega arith)))
+      closed (yes d) (no l) free = end_marked xs to (omega (arith, d, l)) free
+      closed (no d) l free = b.past to (omega arith) (omega (arith, d, b.within)) free
 
-pub walk_first : (xs : List ℕ) (end from to : ℕ) → end ≡ length xs → StretchBefore xs end from to → Walk xs from to
-walk_first xs end from to e = walk_by xs end from to (omega arith) (λ some d. end_marked xs to (omega (arith, d)))
-
-pub walk_next : (xs : List ℕ) (end from to : ℕ) → end ≤ length xs → (0 < end → Free xs (end - 1) → ⊥) → StretchBefore xs end from to → Walk xs from to
-walk_next xs end from to inside edge b = walk_by xs end from to inside last b
-  where
-    last : 0 < to → to ≡ end → Free xs to → ⊥
-    last some d = let e : to - 1 ≡ end - 1 = omega (arith, d) in absurd (edge (omega (arith, d)) (rw e at (b.free (to - 1) (omega (arith, b.some some)) (omega arith))))
+-- A stretch that a window fits into is one.
+pub stretch_long : (xs : List ℕ) (s from to : ℕ) → (0 < to → Stretched xs from to) → 1 ≤ s → s ≤ to - from → Stretched xs from to
+stretch_long xs s from to st least long = st (omega arith)

@@ -8,7 +8,7 @@ use mathlib.Core.Path.{◌≡◌, refl, sym, ◌∙◌, ap, subst}
 use mathlib.Core.Bool.{true, false, ◌&&◌}
 use mathlib.Core.List.{List}
 use lib.Dec.{eqb}
-use lib.ListN.{length, get_or, replicate, get_or-replicate}
+use lib.ListN.{get_or, replicate, get_or-replicate}
 use Rattle.tiling.specs.Tiling.{State}
 use Rattle.window.specs.Hash.{bucket}
 use Rattle.window.specs.HashList.{hash_at}
@@ -16,14 +16,14 @@ use Rattle.chain.specs.Stretches.{StretchBefore}
 use Rattle.bounds.specs.Workspace.{Space, state, bounds_from}
 use Rattle.bounds.specs.declared.Job.{Job}
 use Rattle.bounds.proofs.Workspace.{pattern_length, text_length}
-use Rattle.index.specs.Indexed.{pattern_hash, text_hash, link, slot, Ranges}
+use Rattle.index.specs.Indexed.{pattern_hash, text_hash, link, slot}
 use Rattle.index.specs.Built.{free_at, AllFree, raised_from, listed, in_bucket, next_in, entry_of, PartHashed, Stretched, RowsFrom, LinkedFrom, Linked, TextsFrom}
-use Rattle.index.specs.declared.Pass.{Pass}
+use Rattle.index.specs.declared.pass.Pass.{Pass}
 use Rattle.index.proofs.First.{next_none, next_skip, some_none, some_skip}
 use Rattle.index.proofs.Free.{Busy, busy_by, busy_text, busy_listed, not_free}
 use Rattle.index.proofs.Linking.{linked_same}
 use Rattle.index.proofs.Parts.{part_state, part_later, part_space, text_hashes}
-use Rattle.index.proofs.Stretches.{Walk, walk_first, walk_next, busy_between, end_marked, free_within}
+use Rattle.index.proofs.Stretches.{Walk, walk_first, walk_here, busy_between, end_marked, free_within}
 
 -- ---- windows with a marked word are passed over
 module _ (x : Pass) (ws hs fs : List ℕ) (a b : ℕ) (low : a ≤ b) (busy : (q : ℕ) → a ≤ q → q < b → Busy x.s (state x.job ws).text q) where
@@ -57,7 +57,18 @@ module _ (x : Pass) (ws hs fs : List ℕ) (a b : ℕ) (low : a ≤ b) (busy : (q
       go u k free (no l) = r.of_text u (omega (arith, l)) free
 
 -- ---- one stretch
-module _ (x : Pass) (ws hs fs : List ℕ) (from to : ℕ) (ranges : Ranges x) (st : Stretched (state x.job ws).text from to) (r : TextsFrom x ws hs fs to) where
+-- It may be too short for a window.
+pub texts_short : (x : Pass) (ws hs fs : List ℕ) (from to : ℕ) → from ≤ to → (0 < to → Stretched (state x.job ws).text from to) → TextsFrom x ws hs fs to → to - from < x.s → TextsFrom x ws hs fs from
+texts_short x ws hs fs from to ordered st r short = go (dec_lt 0 to)
+  where
+    go : Dec (0 < to) → TextsFrom x ws hs fs from
+    go (yes some) =
+        texts_skip x ws hs fs from to ordered
+        (λ q k l. busy_by x.s (state x.job ws).text q to (omega arith) (omega (arith, (st some).some)) (st some).closed)
+        r
+    go (no none) = let e : from ≡ to = omega (arith, none) in rw e r
+
+module _ (x : Pass) (ws hs fs : List ℕ) (from to : ℕ) (st : Stretched (state x.job ws).text from to) (r : TextsFrom x ws hs fs to) where
   abbrev j : Job
   j = x.job
 
@@ -67,22 +78,15 @@ module _ (x : Pass) (ws hs fs : List ℕ) (from to : ℕ) (ranges : Ranges x) (s
   inside : to ≤ j.m
   inside = omega (arith, st.within, text_length j ws r.space)
 
-  -- It may be too short for a window.
-  pub texts_short : to - from < s → TextsFrom x ws hs fs from
-  texts_short short =
-      texts_skip x ws hs fs from to (omega (arith, st.some))
-      (λ q k l. busy_by s (state j ws).text q to (omega arith) (omega (arith, st.some)) st.closed)
-      r
-
   module _ (long : s ≤ to - from) (ws' : List ℕ) (h : PartHashed x (j.n + from) (to - from) ws ws') where
     fits : j.n + from + (to - from) ≤ j.n + j.m
     fits = omega (arith, inside, st.some)
 
     part_same : state j ws' ≡ state j ws
-    part_same = part_state x (j.n + from) (to - from) ws ws' h r.space ranges fits
+    part_same = part_state x (j.n + from) (to - from) ws ws' h r.space fits
 
     pub texts_space : Space j ws'
-    texts_space = part_space x (j.n + from) (to - from) ws ws' h r.space ranges fits
+    texts_space = part_space x (j.n + from) (to - from) ws ws' h r.space fits
 
     pub texts_ordered : from ≤ to
     texts_ordered = omega (arith, st.some)
@@ -97,10 +101,10 @@ module _ (x : Pass) (ws hs fs : List ℕ) (from to : ℕ) (ranges : Ranges x) (s
     kept_row p l = h.before (j.n + j.m + p) (omega arith)
 
     kept_text : (u : ℕ) → to ≤ u → text_hash j ws' u ≡ text_hash j ws u
-    kept_text u l = h.after (j.n + j.m + j.n + u) (omega (arith, st.some, ranges.one))
+    kept_text u l = h.after (j.n + j.m + j.n + u) (omega (arith, st.some, x.one))
 
     kept_link : (u : ℕ) → link j ws' u ≡ link j ws u
-    kept_link u = part_later x (j.n + from) (to - from) ws ws' h r.space ranges fits (bounds_from j + j.n + u) (omega arith)
+    kept_link u = part_later x (j.n + from) (to - from) ws ws' h r.space fits (bounds_from j + j.n + u) (omega arith)
 
     pub texts_linked : LinkedFrom x ws' hs fs to
     texts_linked =
@@ -109,7 +113,7 @@ module _ (x : Pass) (ws hs fs : List ℕ) (from to : ℕ) (ranges : Ranges x) (s
         r.linked.entries
 
     module _ (ws₂ hs' fs' : List ℕ) (done : Linked x ws' ws₂ hs' fs' from) where
-      pub texts_state : state j ws₂ ≡ state j ws
+      texts_state : state j ws₂ ≡ state j ws
       texts_state = done.same ∙ part_same
 
       -- The windows that reach past the stretch are not free.
@@ -129,13 +133,13 @@ module _ (x : Pass) (ws hs fs : List ℕ) (from to : ℕ) (ranges : Ranges x) (s
       hash_before u k free (no l) (no d) = kept_text u (omega (arith, d)) ∙ r.of_text u (omega (arith, d)) free
 
       row_within : (p : ℕ) → AllFree s (state j ws).pattern p → p < j.n
-      row_within p free = omega (arith, free_within s (state j ws).pattern p ranges.one free, pattern_length j ws r.space)
+      row_within p free = omega (arith, free_within s (state j ws).pattern p x.one free, pattern_length j ws r.space)
 
       text_within : (u : ℕ) → AllFree s (state j ws).text u → u < j.m
-      text_within u free = omega (arith, free_within s (state j ws).text u ranges.one free, text_length j ws r.space)
+      text_within u free = omega (arith, free_within s (state j ws).text u x.one free, text_length j ws r.space)
 
-      pub texts_entered : TextsFrom x ws₂ hs' fs' from
-      texts_entered =
+      entered : TextsFrom x ws₂ hs' fs' from
+      entered =
           record {
             space = done.space;
             of_pattern = λ p free.
@@ -152,15 +156,21 @@ module _ (x : Pass) (ws hs fs : List ℕ) (from to : ℕ) (ranges : Ranges x) (s
             linked = done.linked;
           }
 
--- ---- stretch by stretch
-pub record TextWalk (x : Pass) (ws₀ ws hs fs : List ℕ) (from to : ℕ) : Type 0 where
-  pub room : length ws ≡ length ws₀
-  pub same : state x.job ws ≡ state x.job ws₀
-  pub walk : Walk (state x.job ws).text from to
-  pub texts : TextsFrom x ws hs fs to
+    module _ (x' : Pass) (e : x' ≡ x) (ws₂ hs' fs' : List ℕ) (done : Linked x' ws' ws₂ hs' fs' from) where
+      pub same_texts : state x'.job ws₂ ≡ state j ws
+      same_texts = rw e (texts_state ws₂ hs' fs' (rw e at done))
 
-none_texts : (x : Pass) (ws hs fs : List ℕ) → Ranges x → hs ≡ replicate 1024 2048 → RowsFrom x ws fs 0 → TextsFrom x ws hs fs x.job.m
-none_texts x ws hs fs ranges fresh rows =
+      pub texts_entered : TextsFrom x' ws₂ hs' fs' from
+      texts_entered = rw e (entered ws₂ hs' fs' (rw e at done))
+
+-- ---- stretch by stretch
+pub record TextWalk (x : Pass) (before : State) (ws hs fs : List ℕ) (end : ℕ) : Type 0 where
+  pub same : state x.job ws ≡ before
+  pub walk : Walk (state x.job ws).text end
+  pub texts : TextsFrom x ws hs fs end
+
+none_texts : (x : Pass) (ws hs fs : List ℕ) → hs ≡ replicate 1024 2048 → RowsFrom x ws fs 0 → TextsFrom x ws hs fs x.job.m
+none_texts x ws hs fs fresh rows =
     record {
       space = rows.space;
       of_pattern = λ p free. rows.hashed p (omega arith) free;
@@ -175,36 +185,19 @@ none_texts x ws hs fs ranges fresh rows =
     }
   where
     past : (u : ℕ) → x.job.m ≤ u → Busy x.s (state x.job ws).text u
-    past u k = busy_by x.s (state x.job ws).text u u (omega arith) (omega (arith, ranges.one)) (end_marked (state x.job ws).text u (omega (arith, text_length x.job ws rows.space)))
+    past u k = busy_by x.s (state x.job ws).text u u (omega arith) (omega (arith, x.one)) (end_marked (state x.job ws).text u (omega (arith, text_length x.job ws rows.space)))
 
-pub text_walk_first : (x : Pass) (ws hs fs : List ℕ) (from to : ℕ) → Ranges x → hs ≡ replicate 1024 2048 → RowsFrom x ws fs 0 → StretchBefore (state x.job ws).text x.job.m from to → TextWalk x ws ws hs fs from to
-text_walk_first x ws hs fs from to ranges fresh rows b =
+pub text_walk_first : (x : Pass) (ws hs fs : List ℕ) → hs ≡ replicate 1024 2048 → RowsFrom x ws fs 0 → TextWalk x (state x.job ws) ws hs fs x.job.m
+text_walk_first x ws hs fs fresh rows =
     record {
-      room = refl;
       same = refl;
-      walk = walk_first (state x.job ws).text x.job.m from to (sym (text_length x.job ws rows.space)) b;
-      texts = texts_skip x ws hs fs to x.job.m b.within (busy_between x.s (state x.job ws).text x.job.m from to ranges.one b) (none_texts x ws hs fs ranges fresh rows);
+      walk = walk_first (state x.job ws).text x.job.m (sym (text_length x.job ws rows.space));
+      texts = none_texts x ws hs fs fresh rows;
     }
 
-module _ (x : Pass) (ws₀ ws hs fs : List ℕ) (from to : ℕ) (w : TextWalk x ws₀ ws hs fs from to) where
+module _ (x : Pass) (before : State) (ws hs fs : List ℕ) (end : ℕ) (w : TextWalk x before ws hs fs end) (from to : ℕ) (b : StretchBefore (state x.job ws).text end from to) where
   pub text_walk_here : 0 < to → Stretched (state x.job ws).text from to
-  text_walk_here some = w.walk.here some
+  text_walk_here = walk_here (state x.job ws).text end from to w.walk b
 
-  pub text_walk_end : from ≤ x.job.m
-  text_walk_end = omega (arith, w.walk.within, text_length x.job ws w.texts.space)
-
-  module _ (some : 0 < to) (ws' hs' fs' : List ℕ) (size : length ws' ≡ length ws) (same : state x.job ws' ≡ state x.job ws) (texts : TextsFrom x ws' hs' fs' from) where
-    pub text_walk_next : Ranges x → (from' to' : ℕ) → StretchBefore (state x.job ws').text from from' to' → TextWalk x ws₀ ws' hs' fs' from' to'
-    text_walk_next ranges from' to' b =
-        record {
-          room = size ∙ w.room;
-          same = same ∙ w.same;
-          walk = walk_next (state x.job ws').text from from' to' walk'.within walk'.edge b;
-          texts = texts_skip x ws' hs' fs' to' from b.within (busy_between x.s (state x.job ws').text from from' to' ranges.one b) texts;
-        }
-      where
-        walk' : Walk (state x.job ws').text from to
-        walk' = subst (λ (z : State). Walk z.text from to) (sym same) w.walk
-
-  pub text_walk_all : to ≤ 0 → TextsFrom x ws hs fs 0
-  text_walk_all none = let e : 0 ≡ to = omega arith in rw e w.texts
+  pub text_walk_texts : TextsFrom x ws hs fs to
+  text_walk_texts = texts_skip x ws hs fs to end b.within (busy_between x.s (state x.job ws).text end from to x.one b) w.texts

@@ -15,16 +15,16 @@ use Rattle.tiling.proofs.Run.{run_words}
 use Rattle.window.specs.Hash.{words_hash, bucket}
 use Rattle.window.specs.HashList.{hash_at}
 use Rattle.bounds.specs.Workspace.{Space, state}
-use Rattle.index.specs.Indexed.{pattern_hash, text_hash, link, slot, Ranges, Indexed, Filtered}
+use Rattle.index.specs.Indexed.{pattern_hash, text_hash, link, slot, Indexed, Filtered}
 use Rattle.index.specs.Built.{free_at, AllFree, raises, raised_from, listed, in_bucket, next_in, linked_from, entry_of, TextsFrom, Built}
-use Rattle.index.specs.declared.Pass.{Pass}
+use Rattle.index.specs.declared.pass.Pass.{Pass}
 use Rattle.index.proofs.Bucket.{bucket_below, slot_below}
 use Rattle.index.proofs.First.{first_least, first_most, first_passes, some_most}
 use Rattle.index.proofs.Free.{free_run, run_pattern, run_text, test_free}
 use Rattle.index.proofs.Kept.{row_inside, column_inside}
 
 -- ---- what the search may go by
-module _ (x : Pass) (ws hs fs : List ℕ) (ranges : Ranges x) (space : Space x.job ws) (of_pattern : (p : ℕ) → AllFree x.s (state x.job ws).pattern p → pattern_hash x.job ws p ≡ hash_at x.multiplier x.s (state x.job ws).pattern p) (of_text : (t : ℕ) → AllFree x.s (state x.job ws).text t → text_hash x.job ws t ≡ hash_at x.multiplier x.s (state x.job ws).text t) (heads : (b : ℕ) → b < 1024 → get_or hs b 0 ≡ next_in x ws b 0) (links : (t : ℕ) → t < x.job.m → listed x ws t ≡ true → link x.job ws t ≡ next_in x ws (bucket x.buckets (text_hash x.job ws t)) (t + 1)) (entries : (i : ℕ) → i < 4096 → get_or fs i 0 ≡ entry_of (raised_from x ws i 0) (linked_from x ws i 0)) where
+module _ (x : Pass) (ws hs fs : List ℕ) (space : Space x.job ws) (of_pattern : (p : ℕ) → AllFree x.s (state x.job ws).pattern p → pattern_hash x.job ws p ≡ hash_at x.multiplier x.s (state x.job ws).pattern p) (of_text : (t : ℕ) → AllFree x.s (state x.job ws).text t → text_hash x.job ws t ≡ hash_at x.multiplier x.s (state x.job ws).text t) (heads : (b : ℕ) → b < 1024 → get_or hs b 0 ≡ next_in x ws b 0) (links : (t : ℕ) → t < x.job.m → listed x ws t ≡ true → link x.job ws t ≡ next_in x ws (bucket x.buckets (text_hash x.job ws t)) (t + 1)) (entries : (i : ℕ) → i < 4096 → get_or fs i 0 ≡ entry_of (raised_from x ws i 0) (linked_from x ws i 0)) where
   -- A number past the text is none of its positions.
   passes : (b t : ℕ) → next_in x ws b t < x.job.m → in_bucket x ws b (next_in x ws b t) ≡ true
   passes b t l = first_passes (in_bucket x ws b) t (x.job.m - t) (omega (arith, space.short_text))
@@ -49,13 +49,13 @@ module _ (x : Pass) (ws hs fs : List ℕ) (ranges : Ranges x) (space : Space x.j
         of_text u text_free ∙ (ap (words_hash x.multiplier) (sym (run_words ps ts x.s h)) ∙ sym (of_pattern p pattern_free))
 
     inside : u < x.job.m
-    inside = column_inside x.job ws p u (omega (arith, h, ranges.one))
+    inside = column_inside x.job ws p u (omega (arith, h, x.one))
 
     free : x.s ≤ free_at x.job ws u
     free = omega (arith, h, free_run x.job ws p u)
 
     in_row : p < x.job.n
-    in_row = row_inside x.job ws p u (omega (arith, h, ranges.one))
+    in_row = row_inside x.job ws p u (omega (arith, h, x.one))
 
     -- The pattern has a window with its entry, so its window is linked.
     raised : raised_from x ws (slot (pattern_hash x.job ws p)) 0 ≡ true
@@ -91,11 +91,11 @@ module _ (x : Pass) (ws hs fs : List ℕ) (ranges : Ranges x) (space : Space x.j
   indexed =
       record {
         linked = in_bucket x ws;
-        least = ranges.one;
+        least = x.one;
         kin = same_hash;
         head = λ p u h.
             let b = bucket x.buckets (pattern_hash x.job ws p) in
-            omega (arith, heads b (bucket_below x.buckets (pattern_hash x.job ws p) ranges.some_bucket ranges.few_buckets), not_past p u h 0 (omega arith));
+            omega (arith, heads b (bucket_below x.buckets (pattern_hash x.job ws p) x.some_bucket x.few_buckets), not_past p u h 0 (omega arith));
         next = λ p u v h l e.
             omega (arith, link_in (bucket x.buckets (pattern_hash x.job ws p)) v (omega (arith, inside p u h)) e, not_past p u h (v + 1) (omega arith));
         head_linked = λ b l k. rw (heads b l) (passes b 0 (omega (arith, heads b l)));
@@ -104,29 +104,32 @@ module _ (x : Pass) (ws hs fs : List ℕ) (ranges : Ranges x) (space : Space x.j
       }
 
 -- ---- the whole index
-pub built_all : (x : Pass) (ws ws₁ ws₂ hs fs : List ℕ) → Ranges x → state x.job ws₁ ≡ state x.job ws → state x.job ws₂ ≡ state x.job ws₁ → TextsFrom x ws₂ hs fs 0 → Built x ws ws₂ hs fs
-built_all x ws ws₁ ws₂ hs fs ranges first second t =
-    record {
-      space = t.space;
-      same = same;
-      of_pattern = λ p free.
-          t.of_pattern p (subst (λ (z : State). AllFree x.s z.pattern p) (sym same) free)
-          ∙ ap (λ (z : State). hash_at x.multiplier x.s z.pattern p) same;
-      of_text = λ u free.
-          text u (subst (λ (z : State). AllFree x.s z.text u) (sym same) free)
-          ∙ ap (λ (z : State). hash_at x.multiplier x.s z.text u) same;
-      heads = t.linked.heads;
-      links = links;
-      entries = t.linked.entries;
-      indexed = indexed x ws₂ hs fs ranges t.space t.of_pattern text t.linked.heads links t.linked.entries;
-      filtered = filtered x ws₂ hs fs ranges t.space t.of_pattern text t.linked.heads links t.linked.entries;
-    }
-  where
-    same : state x.job ws₂ ≡ state x.job ws
-    same = second ∙ first
+module _ (x : Pass) (ws ws₂ hs fs : List ℕ) (same : state x.job ws₂ ≡ state x.job ws) (t : TextsFrom x ws₂ hs fs 0) where
+  text : (u : ℕ) → AllFree x.s (state x.job ws₂).text u → text_hash x.job ws₂ u ≡ hash_at x.multiplier x.s (state x.job ws₂).text u
+  text u free = t.of_text u (omega arith) free
 
-    text : (u : ℕ) → AllFree x.s (state x.job ws₂).text u → text_hash x.job ws₂ u ≡ hash_at x.multiplier x.s (state x.job ws₂).text u
-    text u free = t.of_text u (omega arith) free
+  links : (u : ℕ) → u < x.job.m → listed x ws₂ u ≡ true → link x.job ws₂ u ≡ next_in x ws₂ (bucket x.buckets (text_hash x.job ws₂ u)) (u + 1)
+  links u l e = t.linked.links u (omega arith) l e
 
-    links : (u : ℕ) → u < x.job.m → listed x ws₂ u ≡ true → link x.job ws₂ u ≡ next_in x ws₂ (bucket x.buckets (text_hash x.job ws₂ u)) (u + 1)
-    links u l e = t.linked.links u (omega arith) l e
+  built : Built x ws ws₂ hs fs
+  built =
+      record {
+        space = t.space;
+        same = same;
+        of_pattern = λ p free.
+            t.of_pattern p (subst (λ (z : State). AllFree x.s z.pattern p) (sym same) free)
+            ∙ ap (λ (z : State). hash_at x.multiplier x.s z.pattern p) same;
+        of_text = λ u free.
+            text u (subst (λ (z : State). AllFree x.s z.text u) (sym same) free)
+            ∙ ap (λ (z : State). hash_at x.multiplier x.s z.text u) same;
+        heads = t.linked.heads;
+        links = links;
+        entries = t.linked.entries;
+        indexed = indexed x ws₂ hs fs t.space t.of_pattern text t.linked.heads links t.linked.entries;
+        filtered = filtered x ws₂ hs fs t.space t.of_pattern text t.linked.heads links t.linked.entries;
+      }
+
+pub built_all : (x x₁ x₂ : Pass) (ws ws₁ ws₂ hs fs : List ℕ) → x₁ ≡ x → x₂ ≡ x₁ → state x₁.job ws₁ ≡ state x.job ws → state x₂.job ws₂ ≡ state x₁.job ws₁ → TextsFrom x₂ ws₂ hs fs 0 → Built x ws ws₂ hs fs
+built_all x x₁ x₂ ws ws₁ ws₂ hs fs d e first second t =
+    let k : x₂ ≡ x = e ∙ d in
+    built x ws ws₂ hs fs (rw k at (second ∙ first)) (rw k at t)

@@ -8,7 +8,7 @@ use Rattle.window.specs.HashList.{hash_at}
 use Rattle.bounds.specs.Workspace.{Space, state, bounds_from}
 use Rattle.bounds.specs.declared.Job.{Job}
 use Rattle.index.specs.Indexed.{pattern_hash, text_hash, link, slot, Indexed, Filtered}
-use Rattle.index.specs.declared.Pass.{Pass}
+use Rattle.index.specs.declared.pass.Pass.{Pass}
 
 -- How many calls stand in the text from t on without a gap: a word matches itself just when it is a call.
 abbrev pub free_at : Job → List ℕ → ℕ → ℕ

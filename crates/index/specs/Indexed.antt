@@ -4,15 +4,7 @@ use Rattle.tiling.specs.Tiling.{run_at}
 use Rattle.window.specs.Hash.{bucket}
 use Rattle.bounds.specs.Workspace.{state, bounds_from}
 use Rattle.bounds.specs.declared.Job.{Job}
-use Rattle.index.specs.declared.Pass.{Pass}
-
--- What the checks leave of a pass's numbers.
-pub record Ranges (x : Pass) : Type 0 where
-  pub some_bucket : 1 ≤ x.buckets
-  pub few_buckets : x.buckets ≤ 1024
-  pub one : 1 ≤ x.s
-  pub most : x.s ≤ 2048
-  pub enough : x.job.minimum ≤ x.s
+use Rattle.index.specs.declared.pass.Pass.{Pass}
 
 -- Where a pass keeps the hash of the window at a position, and where a position of the text points on to.
 abbrev pub pattern_hash : Job → List ℕ → ℕ → ℕ

@@ -2,22 +2,25 @@
 // rising order. Only windows of the text are linked whose hash the pattern may have. Windows are found by the chains of free words.
 #![tactic(auto)]
 
-ghost use Rattle.std.specs.Prelude.{◌≡◌, ℕ, ◌+◌, ◌-◌, ◌≤◌, ◌<◌, length, get_or, set, replicate};
+ghost use Rattle.std.specs.Prelude.{◌≡◌, ℕ, ◌+◌, ◌-◌, ◌≤◌, ◌<◌, get_or, set, replicate};
 ghost use Rattle.window.specs.Hash.{bucket};
 ghost use Rattle.bounds.specs.Workspace.{Space, state, bounds_from};
-ghost use Rattle.index.specs.Indexed.{pattern_hash, text_hash, link, slot, place, Ranges};
+ghost use Rattle.index.specs.Indexed.{pattern_hash, text_hash, link, slot, place};
 ghost use Rattle.index.specs.Built.{free_at, AllFree, weight_of, PartHashed, Stretched, RaisedFrom, RowsFrom, Entered, LinkedFrom, Linked, TextsFrom, Built};
 
-use bounds::{Job, Rows, Texts};
+mod pass;
+
+use bounds::{Job, View};
+use chain::Stretch;
+pub use pass::Pass;
 use tile::{PatternAt, TextAt};
 
-// A pass of the search: the comparison, the search length s, and how windows are hashed.
-#[derive(Clone, Copy)]
-pub struct Pass {
-    pub job: Job,
-    pub s: usize,
-    pub multiplier: u32,
-    pub buckets: usize,
+// The index of a pass: for each bucket the first position of the text in it, and for each entry of the filter what has it.
+#[derive(Drop)]
+pub struct Index {
+    pub pass: Pass,
+    pub heads: [u16; 1024],
+    pub filter: [u8; 4096],
 }
 
 // The bucket of a hash.
@@ -42,68 +45,38 @@ pub fn place_of(h: u32) -> usize
     slot_of(h) / 4
 }
 
-// The hash of the pattern's window at a position.
-pub fn pattern_hash(ws: &[u32], job: Job, p: PatternAt) -> u32
-    requires { Space job ws.now × (p.0 < job.n + job.m) }
-    ensures { result ≡ pattern_hash job ws.now p.0 }
+// The hash of the pattern's window at a position. This and the next two differ in an offset alone, but one function for them would take
+// a bare number, and not a position of the sequence that it reads.
+pub fn pattern_hash(view: &View, p: PatternAt) -> u32
+    requires { p.0 < view.now.job.n + view.now.job.m }
+    ensures { result ≡ pattern_hash view.now.job view.now.words.now p.0 }
 {
-    let at = job.n + job.m + p.0;
-    ws[at]
+    let at = view.job.n + view.job.m + p.0;
+    view.words[at]
 }
 
 // The hash of the text's window at a position.
-pub fn text_hash(ws: &[u32], job: Job, t: TextAt) -> u32
-    requires { Space job ws.now × (t.0 < job.n + job.m) }
-    ensures { result ≡ text_hash job ws.now t.0 }
+pub fn text_hash(view: &View, t: TextAt) -> u32
+    requires { t.0 < view.now.job.n + view.now.job.m }
+    ensures { result ≡ text_hash view.now.job view.now.words.now t.0 }
 {
-    let at = job.n + job.m + job.n + t.0;
-    ws[at]
+    let at = view.job.n + view.job.m + view.job.n + t.0;
+    view.words[at]
 }
 
-// The next position of the text in the same bucket; after the last, 2,048, which is past every text.
-pub fn next_text(ws: &[u32], job: Job, t: TextAt) -> TextAt
-    requires { Space job ws.now × (t.0 < job.m) }
-    ensures { result.0 ≡ link job ws.now t.0 }
+// The next position of the text in the same bucket; after the last, 2,048, which is past every text: links are words of the workspace, and
+// one comparison with the text's length tells of the end and of too few words alike.
+pub fn next_text(view: &View, t: TextAt) -> TextAt
+    requires { t.0 < view.now.job.m }
+    ensures { result.0 ≡ link view.now.job view.now.words.now t.0 }
 {
-    let at = 2 * (job.n + job.m) + job.n + t.0;
-    TextAt(bounds::wide(ws[at]))
-}
-
-// The head of a bucket.
-fn head_of(heads: &[u16; 1024], bucket: usize) -> u32
-    requires { bucket < 1024 }
-    ensures { result ≡ get_or heads.now bucket 0 }
-{
-    bounds::word(heads[bucket])
-}
-
-// The first position of the text in a bucket; where there is none, 2,048, which is past every text.
-pub fn first_text(heads: &[u16; 1024], bucket: usize) -> TextAt
-    requires { bucket < 1024 }
-    ensures { result.0 ≡ get_or heads.now bucket 0 }
-{
-    TextAt(bounds::wide(head_of(heads, bucket)))
-}
-
-// The entry of the filter for a hash: 0 where the pattern has no free window with that entry, 1 where it has one, and 2 where a
-// window of the text is linked that has it too.
-pub fn entry_of(filter: &[u8; 4096], h: u32) -> u8
-    ensures { result ≡ get_or filter.now (slot h) 0 }
-{
-    filter[slot_of(h)]
-}
-
-// Sets an entry.
-fn put(filter: &mut [u8], at: usize, value: u8)
-    requires { at < length filter.old }
-    ensures { (filter.new ≡ set filter.old at value) × (get_or filter.new at 0 ≡ value) }
-{
-    filter[at] = value;
+    let at = 2 * (view.job.n + view.job.m) + view.job.n + t.0;
+    TextAt(view.words[at] as usize)
 }
 
 // Hashes the windows of some of the words of the two sequences, which stand side by side.
 fn hash_part(ws: &mut [u32], pass: Pass, weight: u32, from: usize, count: usize)
-    requires { Space pass.job ws.old × Ranges pass × (weight ≡ weight_of pass) × (pass.s ≤ count) × (from + count ≤ pass.job.n + pass.job.m) }
+    requires { Space pass.job ws.old × (weight ≡ weight_of pass) × (pass.s ≤ count) × (from + count ≤ pass.job.n + pass.job.m) }
     ensures { PartHashed pass from count ws.old ws.new }
 {
     let words = pass.job.n + pass.job.m;
@@ -117,66 +90,32 @@ fn hash_part(ws: &mut [u32], pass: Pass, weight: u32, from: usize, count: usize)
     );
 }
 
-// Sets the entries of the pattern's windows from one position up to another, from right to left.
-fn raise_rows(ws: &[u32], pass: Pass, from: PatternAt, to: PatternAt, filter: &mut [u8; 4096])
-    requires { Space pass.job ws.now × (from.0 ≤ to.0) × ((q : ℕ) → from.0 ≤ q → q < to.0 → AllFree pass.s (state pass.job ws.now).pattern q) × RaisedFrom pass ws.now filter.old to.0 }
-    ensures { RaisedFrom pass ws.now filter.new from.0 }
-{
-    let mut p = to.0;
-    while from.0 < p {
-        p -= 1;
-        let h = pattern_hash(ws, pass.job, PatternAt(p));
-        put(filter, slot_of(h), 1);
-    }
-}
-
-// Hashes the windows of a stretch of the pattern, which is long enough for one, and sets their entries.
-fn enter_rows(ws: &mut [u32], pass: Pass, weight: u32, part: Rows, filter: &mut [u8; 4096])
-    requires { Ranges pass × (weight ≡ weight_of pass) × Stretched (state pass.job ws.old).pattern part.from.0 part.to.0 × (pass.s ≤ part.to.0 - part.from.0) × RowsFrom pass ws.old filter.old part.to.0 }
-    ensures state_unchanged { state pass.job ws.new ≡ state pass.job ws.old }
-    ensures rows_from { RowsFrom pass ws.new filter.new part.from.0 }
-{
-    let from = part.from.0;
-    let to = part.to.0;
-    hash_part(ws, pass, weight, from, to - from);
-    raise_rows(ws, pass, part.from, PatternAt(to + 1 - pass.s), filter);
-}
-
-// Hashes the windows of a stretch of the pattern and sets their entries; where the stretch is too short it has none.
-fn hash_row_stretch(ws: &mut [u32], pass: Pass, weight: u32, part: Rows, filter: &mut [u8; 4096])
-    requires { Ranges pass × (weight ≡ weight_of pass) × Stretched (state pass.job ws.old).pattern part.from.0 part.to.0 × RowsFrom pass ws.old filter.old part.to.0 }
-    ensures state_unchanged { state pass.job ws.new ≡ state pass.job ws.old }
-    ensures rows_from { RowsFrom pass ws.new filter.new part.from.0 }
-{
-    if part.to.0 - part.from.0 < pass.s {
-        return;
-    }
-    enter_rows(ws, pass, weight, part, filter);
-}
-
-// Hashes the windows of the pattern that are free, stretch by stretch, and sets their entries.
-fn hash_rows(ws: &mut [u32], pass: Pass, weight: u32, filter: &mut [u8; 4096])
-    requires { Space pass.job ws.old × Ranges pass × (weight ≡ weight_of pass) × (filter.old ≡ replicate 4096 0) }
-    ensures state_unchanged { state pass.job ws.new ≡ state pass.job ws.old }
-    ensures rows_from { RowsFrom pass ws.new filter.new 0 }
-{
-    let mut part = bounds::rows_before(ws, pass.job, PatternAt(pass.job.n));
-    while 0 < part.to.0 {
-        hash_row_stretch(ws, pass, weight, part, filter);
-        part = bounds::rows_before(ws, pass.job, part.from);
-    }
-}
-
 // How many calls stand in the text from t on without a gap, where after that many stand from the next position on.
-fn free_from(ws: &[u32], job: Job, t: TextAt, after: usize) -> usize
-    requires { Space job ws.now × (t.0 < job.m) × (after ≡ free_at job ws.now (t.0 + 1)) }
-    ensures { result ≡ free_at job ws.now t.0 }
+fn free_from(view: &View, t: TextAt, after: usize) -> usize
+    requires { (t.0 < view.now.job.m) × (after ≡ free_at view.now.job view.now.words.now (t.0 + 1)) }
+    ensures { result ≡ free_at view.now.job view.now.words.now t.0 }
 {
-    let at = job.n + t.0;
-    if !symbol::is_call(ws[at]) {
+    let at = view.job.n + t.0;
+    if !symbol::is_call(view.words[at]) {
         return 0;
     }
     after + 1
+}
+
+// The first position of the text in a bucket; where there is none, 2,048, which is past every text: a head is two bytes of fixed memory.
+pub fn first_text(heads: &[u16; 1024], bucket: usize) -> TextAt
+    requires { bucket < 1024 }
+    ensures { result.0 ≡ get_or heads.now bucket 0 }
+{
+    TextAt(heads[bucket] as usize)
+}
+
+// The entry of the filter for a hash: 0 where the pattern has no free window with that entry, 1 where it has one, and 2 where a
+// window of the text is linked that has it too.
+pub fn entry_of(filter: &[u8; 4096], h: u32) -> u8
+    ensures { result ≡ get_or filter.now (slot h) 0 }
+{
+    filter[slot_of(h)]
 }
 
 // Sets where a position of the text points on to.
@@ -188,125 +127,170 @@ fn set_link(ws: &mut [u32], job: Job, t: TextAt, value: u32)
     ws[at] = value;
 }
 
-// Makes a position of the text the head of its bucket, and sets its entry of the filter.
-fn enter(heads: &mut [u16; 1024], filter: &mut [u8; 4096], bucket: usize, h: u32, t: TextAt)
-    requires { (bucket < 1024) × (t.0 ≤ 2048) }
-    ensures heads_after { heads.new ≡ set heads.old bucket t.0 }
-    ensures filter_after { (filter.new ≡ set filter.old (slot h) 2) × (get_or filter.new (slot h) 0 ≡ 2) }
-{
-    heads[bucket] = t.0 as u16;
-    put(filter, slot_of(h), 2);
-}
-
-// Links the text's window at t to the head of its bucket and makes it the head, where its s words are free and the pattern may
-// have its hash.
-fn link_window(
-    ws: &mut [u32],
-    pass: Pass,
-    t: TextAt,
-    free: usize,
-    heads: &mut [u16; 1024],
-    filter: &mut [u8; 4096],
-)
-    requires { Space pass.job ws.old × (t.0 < pass.job.m) × (1 ≤ pass.buckets) × (pass.buckets ≤ 1024) }
-    ensures { Entered pass t.0 free ws.old heads.old filter.old ws.new heads.new filter.new }
-{
-    if free < pass.s {
-        return;
+impl Index {
+    // Sets the entries of the pattern's windows from one position up to another, from right to left. It makes the view itself: of one
+    // that is passed it would have to be said that its comparison is the pass's.
+    fn raise_rows(&mut self, ws: &[u32], from: PatternAt, to: PatternAt)
+        requires { Space self.old.pass.job ws.now × (from.0 ≤ to.0) × ((q : ℕ) → from.0 ≤ q → q < to.0 → AllFree self.old.pass.s (state self.old.pass.job ws.now).pattern q) × RaisedFrom self.old.pass ws.now self.old.filter to.0 }
+        ensures pass_kept { self.new.pass ≡ self.old.pass }
+        ensures heads_kept { self.new.heads ≡ self.old.heads }
+        ensures raised_from { RaisedFrom self.old.pass ws.now self.new.filter from.0 }
+    {
+        let view = View {
+            job: self.pass.job,
+            words: ws,
+        };
+        let filter = &mut self.filter;
+        for p in (from.0..to.0).rev() {
+            let h = pattern_hash(&view, PatternAt(p));
+            filter[slot_of(h)] = 1;
+        }
     }
-    let h = text_hash(ws, pass.job, t);
-    if entry_of(filter, h) == 0 {
-        return;
+
+    // Hashes the windows of a stretch of the pattern, which is long enough for one, and sets their entries.
+    fn enter_rows(&mut self, ws: &mut [u32], weight: u32, rows: Stretch<PatternAt>)
+        requires { (weight ≡ weight_of self.old.pass) × Stretched (state self.old.pass.job ws.old).pattern rows.from.0 rows.to.0 × (self.old.pass.s ≤ rows.to.0 - rows.from.0) × RowsFrom self.old.pass ws.old self.old.filter rows.to.0 }
+        ensures pass_kept { self.new.pass ≡ self.old.pass }
+        ensures heads_kept { self.new.heads ≡ self.old.heads }
+        ensures state_unchanged { state self.new.pass.job ws.new ≡ state self.old.pass.job ws.old }
+        ensures rows_from { RowsFrom self.new.pass ws.new self.new.filter rows.from.0 }
+    {
+        let from = rows.from.0;
+        let to = rows.to.0;
+        hash_part(ws, self.pass, weight, from, to - from);
+        self.raise_rows(ws, rows.from, PatternAt(to + 1 - self.pass.s));
     }
-    let bucket = bucket_of(h, pass.buckets);
-    set_link(ws, pass.job, t, head_of(heads, bucket));
-    enter(heads, filter, bucket, h, t);
-}
 
-// Links the windows of a stretch of the text, from right to left.
-fn link_stretch(
-    ws: &mut [u32],
-    pass: Pass,
-    part: Texts,
-    heads: &mut [u16; 1024],
-    filter: &mut [u8; 4096],
-)
-    requires { Space pass.job ws.old × Ranges pass × (part.from.0 ≤ part.to.0) × (0 ≡ free_at pass.job ws.old part.to.0) × LinkedFrom pass ws.old heads.old filter.old part.to.0 }
-    ensures { Linked pass ws.old ws.new heads.new filter.new part.from.0 }
-{
-    let from = part.from.0;
-    let mut free = 0;
-    let mut t = part.to.0;
-    while from < t {
-        t -= 1;
-        free = free_from(ws, pass.job, TextAt(t), free);
-        link_window(ws, pass, TextAt(t), free, heads, filter);
+    // Hashes the windows of a stretch of the pattern and sets their entries; where the stretch is too short it has none.
+    fn hash_row_stretch(&mut self, ws: &mut [u32], weight: u32, rows: Stretch<PatternAt>)
+        requires { (weight ≡ weight_of self.old.pass) × (rows.from.0 ≤ rows.to.0) × (0 < rows.to.0 → Stretched (state self.old.pass.job ws.old).pattern rows.from.0 rows.to.0) × RowsFrom self.old.pass ws.old self.old.filter rows.to.0 }
+        ensures pass_kept { self.new.pass ≡ self.old.pass }
+        ensures heads_kept { self.new.heads ≡ self.old.heads }
+        ensures state_unchanged { state self.new.pass.job ws.new ≡ state self.old.pass.job ws.old }
+        ensures rows_from { RowsFrom self.new.pass ws.new self.new.filter rows.from.0 }
+    {
+        if rows.to.0 - rows.from.0 < self.pass.s {
+            return;
+        }
+        self.enter_rows(ws, weight, rows);
     }
-}
 
-// Hashes and links the windows of a stretch of the text, which is long enough for one.
-fn enter_texts(
-    ws: &mut [u32],
-    pass: Pass,
-    weight: u32,
-    part: Texts,
-    heads: &mut [u16; 1024],
-    filter: &mut [u8; 4096],
-)
-    requires { Ranges pass × (weight ≡ weight_of pass) × Stretched (state pass.job ws.old).text part.from.0 part.to.0 × (pass.s ≤ part.to.0 - part.from.0) × TextsFrom pass ws.old heads.old filter.old part.to.0 }
-    ensures state_unchanged { state pass.job ws.new ≡ state pass.job ws.old }
-    ensures texts_from { TextsFrom pass ws.new heads.new filter.new part.from.0 }
-{
-    let from = part.from.0;
-    hash_part(ws, pass, weight, pass.job.n + from, part.to.0 - from);
-    link_stretch(ws, pass, part, heads, filter);
-}
-
-// Hashes and links the windows of a stretch of the text; where the stretch is too short it has none.
-fn link_text_stretch(
-    ws: &mut [u32],
-    pass: Pass,
-    weight: u32,
-    part: Texts,
-    heads: &mut [u16; 1024],
-    filter: &mut [u8; 4096],
-)
-    requires { Ranges pass × (weight ≡ weight_of pass) × Stretched (state pass.job ws.old).text part.from.0 part.to.0 × TextsFrom pass ws.old heads.old filter.old part.to.0 }
-    ensures state_unchanged { state pass.job ws.new ≡ state pass.job ws.old }
-    ensures texts_from { TextsFrom pass ws.new heads.new filter.new part.from.0 }
-{
-    if part.to.0 - part.from.0 < pass.s {
-        return;
+    // Hashes the windows of the pattern that are free, stretch by stretch, and sets their entries. `link_windows` goes through the text
+    // likewise: a walk that both call would take what a stretch needs and keeps as contracts of a closure, and is no shorter.
+    fn hash_rows(&mut self, ws: &mut [u32], weight: u32)
+        requires { Space self.old.pass.job ws.old × (weight ≡ weight_of self.old.pass) × (self.old.filter ≡ replicate 4096 0) }
+        ensures pass_kept { self.new.pass ≡ self.old.pass }
+        ensures heads_kept { self.new.heads ≡ self.old.heads }
+        ensures state_unchanged { state self.new.pass.job ws.new ≡ state self.old.pass.job ws.old }
+        ensures rows_from { RowsFrom self.new.pass ws.new self.new.filter 0 }
+    {
+        let mut end = PatternAt(self.pass.job.n);
+        while 0 < end.0 {
+            let view = View {
+                job: self.pass.job,
+                words: ws,
+            };
+            let rows = view.rows_before(end);
+            self.hash_row_stretch(ws, weight, rows);
+            end = rows.from;
+        }
     }
-    enter_texts(ws, pass, weight, part, heads, filter);
-}
 
-// Hashes and links the text's windows that are free, stretch by stretch, from right to left, so that each chain rises.
-fn link_windows(
-    ws: &mut [u32],
-    pass: Pass,
-    weight: u32,
-    heads: &mut [u16; 1024],
-    filter: &mut [u8; 4096],
-)
-    requires { Ranges pass × (weight ≡ weight_of pass) × (heads.old ≡ replicate 1024 2048) × RowsFrom pass ws.old filter.old 0 }
-    ensures state_unchanged { state pass.job ws.new ≡ state pass.job ws.old }
-    ensures texts_from { TextsFrom pass ws.new heads.new filter.new 0 }
-{
-    let mut part = bounds::text_before(ws, pass.job, TextAt(pass.job.m));
-    while 0 < part.to.0 {
-        link_text_stretch(ws, pass, weight, part, heads, filter);
-        part = bounds::text_before(ws, pass.job, part.from);
+    // Links the text's window at t to the head of its bucket and makes it the head, where its s words are free and the pattern may
+    // have its hash.
+    fn link_window(&mut self, ws: &mut [u32], t: TextAt, free: usize)
+        requires { Space self.old.pass.job ws.old × (t.0 < self.old.pass.job.m) }
+        ensures pass_kept { self.new.pass ≡ self.old.pass }
+        ensures entered { Entered self.old.pass t.0 free ws.old self.old.heads self.old.filter ws.new self.new.heads self.new.filter }
+    {
+        if free < self.pass.s {
+            return;
+        }
+        let view = View {
+            job: self.pass.job,
+            words: ws,
+        };
+        let h = text_hash(&view, t);
+        if entry_of(&self.filter, h) == 0 {
+            return;
+        }
+        let bucket = bucket_of(h, self.pass.buckets);
+        set_link(ws, self.pass.job, t, self.heads[bucket] as u32);
+        self.heads[bucket] = t.0 as u16;
+        self.filter[slot_of(h)] = 2;
     }
-}
 
-// Hashes every free window of s words, and links those of the text by bucket whose hash the pattern may have. Windows are taken from
-// the stretches of free words. Every head must be 2,048, past every text, and every entry of the filter 0.
-pub fn build(ws: &mut [u32], pass: Pass, heads: &mut [u16; 1024], filter: &mut [u8; 4096])
-    requires { Space pass.job ws.old × Ranges pass × (heads.old ≡ replicate 1024 2048) × (filter.old ≡ replicate 4096 0) }
-    ensures { Built pass ws.old ws.new heads.new filter.new }
-{
-    let weight = window::power(pass.multiplier, pass.s - 1);
-    hash_rows(ws, pass, weight, filter);
-    link_windows(ws, pass, weight, heads, filter);
+    // Links the windows of a stretch of the text, from right to left.
+    fn link_stretch(&mut self, ws: &mut [u32], texts: Stretch<TextAt>)
+        requires { Space self.old.pass.job ws.old × (texts.from.0 ≤ texts.to.0) × (0 ≡ free_at self.old.pass.job ws.old texts.to.0) × LinkedFrom self.old.pass ws.old self.old.heads self.old.filter texts.to.0 }
+        ensures pass_kept { self.new.pass ≡ self.old.pass }
+        ensures linked { Linked self.new.pass ws.old ws.new self.new.heads self.new.filter texts.from.0 }
+    {
+        let mut free = 0;
+        for t in (texts.from.0..texts.to.0).rev() {
+            let view = View {
+                job: self.pass.job,
+                words: ws,
+            };
+            free = free_from(&view, TextAt(t), free);
+            self.link_window(ws, TextAt(t), free);
+        }
+    }
+
+    // Hashes and links the windows of a stretch of the text, which is long enough for one.
+    fn enter_texts(&mut self, ws: &mut [u32], weight: u32, texts: Stretch<TextAt>)
+        requires { (weight ≡ weight_of self.old.pass) × Stretched (state self.old.pass.job ws.old).text texts.from.0 texts.to.0 × (self.old.pass.s ≤ texts.to.0 - texts.from.0) × TextsFrom self.old.pass ws.old self.old.heads self.old.filter texts.to.0 }
+        ensures pass_kept { self.new.pass ≡ self.old.pass }
+        ensures state_unchanged { state self.new.pass.job ws.new ≡ state self.old.pass.job ws.old }
+        ensures texts_from { TextsFrom self.new.pass ws.new self.new.heads self.new.filter texts.from.0 }
+    {
+        let from = texts.from.0;
+        let pass = self.pass;
+        hash_part(ws, pass, weight, pass.job.n + from, texts.to.0 - from);
+        self.link_stretch(ws, texts);
+    }
+
+    // Hashes and links the windows of a stretch of the text; where the stretch is too short it has none.
+    fn link_text_stretch(&mut self, ws: &mut [u32], weight: u32, texts: Stretch<TextAt>)
+        requires { (weight ≡ weight_of self.old.pass) × (texts.from.0 ≤ texts.to.0) × (0 < texts.to.0 → Stretched (state self.old.pass.job ws.old).text texts.from.0 texts.to.0) × TextsFrom self.old.pass ws.old self.old.heads self.old.filter texts.to.0 }
+        ensures pass_kept { self.new.pass ≡ self.old.pass }
+        ensures state_unchanged { state self.new.pass.job ws.new ≡ state self.old.pass.job ws.old }
+        ensures texts_from { TextsFrom self.new.pass ws.new self.new.heads self.new.filter texts.from.0 }
+    {
+        if texts.to.0 - texts.from.0 < self.pass.s {
+            return;
+        }
+        self.enter_texts(ws, weight, texts);
+    }
+
+    // Hashes and links the text's windows that are free, stretch by stretch, from right to left, so that each chain rises.
+    fn link_windows(&mut self, ws: &mut [u32], weight: u32)
+        requires { (weight ≡ weight_of self.old.pass) × (self.old.heads ≡ replicate 1024 2048) × RowsFrom self.old.pass ws.old self.old.filter 0 }
+        ensures pass_kept { self.new.pass ≡ self.old.pass }
+        ensures state_unchanged { state self.new.pass.job ws.new ≡ state self.old.pass.job ws.old }
+        ensures texts_from { TextsFrom self.new.pass ws.new self.new.heads self.new.filter 0 }
+    {
+        let mut end = TextAt(self.pass.job.m);
+        while 0 < end.0 {
+            let view = View {
+                job: self.pass.job,
+                words: ws,
+            };
+            let texts = view.text_before(end);
+            self.link_text_stretch(ws, weight, texts);
+            end = texts.from;
+        }
+    }
+
+    // Hashes every free window of s words, and links those of the text by bucket whose hash the pattern may have. Windows are taken from
+    // the stretches of free words. Nothing must have been entered before.
+    pub fn build(&mut self, ws: &mut [u32])
+        requires { Space self.old.pass.job ws.old × (self.old.heads ≡ replicate 1024 2048) × (self.old.filter ≡ replicate 4096 0) }
+        ensures pass_kept { self.new.pass ≡ self.old.pass }
+        ensures built { Built self.old.pass ws.old ws.new self.new.heads self.new.filter }
+    {
+        let weight = window::power(self.pass.multiplier, self.pass.s - 1);
+        self.hash_rows(ws, weight);
+        self.link_windows(ws, weight);
+    }
 }

@@ -150,9 +150,11 @@ module _ (ws : List ℕ) (b minimum given few short : ℕ) (es : short ≡ short
     unfolding longer_length
     longer_none h = rw (longer_length, no_short, le-leb (length ws) 256 h) refl
 
-    pub longer_climbed : 256 < length ws → (up cut from r : ℕ) → up ≡ max given 20 → cut ≡ min up 64 → from ≡ max minimum cut → r ≡ climbed ws b from from few 3 → r ≡ longer_length ws b minimum given few
+    pub longer_climbed : 256 < length ws → (cut from r : ℕ) → cut ≡ max 20 (min given 64) → from ≡ max minimum cut → r ≡ climbed ws b from from few 3 → r ≡ longer_length ws b minimum given few
     unfolding longer_length
-    longer_climbed h up cut from r eu el ef w = w ∙ rw (longer_length, no_short, lt-leb (length ws) 256 h, ef, el, eu) refl
+    longer_climbed h cut from r el ef w =
+        let same : cut ≡ min (max given 20) 64 = omega (arith, el) in
+        w ∙ rw (longer_length, no_short, lt-leb (length ws) 256 h, ef, same) refl
 
 -- How many are enough.
 pub enough_short : (n : ℕ) → n ≤ 256 → 12 ≡ enough n

@@ -11,7 +11,9 @@ use mathlib.Core.List.{List}
 use borrow.Author.Tests.{lt-ltb, le-ltb, eq-eqb, ne_eqb}
 use lib.Dec.{eqb}
 use lib.ListN.{length, take, drop, get_or, set, replicate, get_or-replicate}
-use lib.Seq.{get_or-set_other}
+use lib.Seq.{take_all, get_or-set_other, get_or-set_same}
+use Rattle.std.specs.List.{count_by}
+use Rattle.std.proofs.lemmas.List.Sums.{count_by_more_no, count_by_more_yes}
 use Rattle.tiling.specs.Tally.{one}
 use Rattle.window.specs.Hash.{words_hash}
 use Rattle.index.proofs.First.{some_none, some_here, some_later}
@@ -48,9 +50,6 @@ module _ (ws : List ℕ) (b s step : ℕ) (marked : List ℕ) (i : ℕ) (m : Mar
   pub marking_room : (i - 1) * step < 2 ^ 64
   marking_room = omega (arith, marking_inside, m.short)
 
-  pub marking_end : (at : ℕ) → at ≡ (i - 1) * step → at + s < 2 ^ 64
-  marking_end at e = omega (arith, marking_inside, m.short, e)
-
   pub marking_bytes : (at : ℕ) → at ≡ (i - 1) * step → at * 4 < 2 ^ 64
   marking_bytes at e = omega (arith, marking_inside, m.short, e)
 
@@ -63,8 +62,8 @@ module _ (ws : List ℕ) (b s step : ℕ) (marked : List ℕ) (i : ℕ) (m : Mar
   small : samples ws s step ≤ 2048
   small = omega arith
 
-  pub marking_more : (at h k : ℕ) (marked' : List ℕ) → at ≡ (i - 1) * step → h ≡ words_hash b (take (at + s - at) (drop at ws)) → k ≡ place h → marked' ≡ set marked k 1 → get_or marked' k 0 ≡ 1 → Marking ws b s step marked' (i - 1)
-  marking_more at h k marked' ea eh ek w here =
+  pub marking_more : (at h k : ℕ) → at ≡ (i - 1) * step → h ≡ words_hash b (take (at + s - at) (drop at ws)) → k ≡ place h → k < length marked → Marking ws b s step (set marked k 1) (i - 1)
+  marking_more at h k ea eh ek inside =
       record { some = m.some; long = m.long; fits = m.fits; short = m.short; within = omega (arith, m.within); entries = λ c l. entries c l (ℕ_discrete c k) }
     where
       count : ℕ
@@ -73,10 +72,10 @@ module _ (ws : List ℕ) (b s step : ℕ) (marked : List ℕ) (i : ℕ) (m : Mar
       there : place (words_hash b (take s (drop ((i - 1) * step) ws))) ≡ k
       there = let z : at + s - at ≡ s = omega arith in sym (ek ∙ ap place (eh ∙ rw (z, ea) refl))
 
-      entries : (c : ℕ) → c < 1024 → Dec (c ≡ k) → get_or marked' c 0 ≡ one (some_taken ws b s step c (i - 1))
-      entries c l (yes e) = rw (e, some_here (taken ws b s step k) (i - 1) count (omega (arith, m.within)) small (eq-eqb _ k there)) here
+      entries : (c : ℕ) → c < 1024 → Dec (c ≡ k) → get_or (set marked k 1) c 0 ≡ one (some_taken ws b s step c (i - 1))
+      entries c l (yes e) = rw (e, some_here (taken ws b s step k) (i - 1) count (omega (arith, m.within)) small (eq-eqb _ k there)) (get_or-set_same marked k 1 0 inside)
       entries c l (no d) =
-          rw (some_later (taken ws b s step c) (i - 1) count (omega (arith, m.within)) (ne_eqb _ c (λ z. d (sym z ∙ there))), back, w)
+          rw (some_later (taken ws b s step c) (i - 1) count (omega (arith, m.within)) (ne_eqb _ c (λ z. d (sym z ∙ there))), back)
           (get_or-set_other marked k c 1 0 d ∙ m.entries c l)
 
 pub marking_all : (ws : List ℕ) (b s step : ℕ) (marked : List ℕ) (i : ℕ) → Marking ws b s step marked i → i ≤ 0 → Marked ws b s step marked
@@ -88,43 +87,19 @@ unfolding count_below
 count_same f g zero h = refl
 count_same f g (suc n) h = rw (count_same f g n (λ k l. h k (omega arith)), h n (omega arith)) refl
 
-count_most : (f : ℕ → Bool) (n : ℕ) → count_below f n ≤ n
+counts : (f : ℕ → Bool) (xs : List ℕ) (n : ℕ) → n ≤ length xs → count_by f (take n xs) ≡ count_below (λ k. f (get_or xs k 0)) n
 unfolding count_below
-count_most f zero = omega arith
-count_most f (suc n) = go (f n) (count_most f n)
+counts f xs zero h = refl
+counts f xs (suc n) h = rw (← add-one n) (go (f (get_or xs n 0)) refl (counts f xs n (omega arith)))
   where
-    go : (b : Bool) → count_below f n ≤ n → count_below f n + one b ≤ suc n
-    go true h = omega (arith, h)
-    go false h = omega (arith, h)
+    go : (b : Bool) → f (get_or xs n 0) ≡ b → count_by f (take n xs) ≡ count_below (λ k. f (get_or xs k 0)) n → count_by f (take (n + 1) xs) ≡ count_below (λ k. f (get_or xs k 0)) n + one (f (get_or xs n 0))
+    go true e before = rw e (count_by_more_yes f xs n 0 (omega arith) e ∙ ap (λ m. m + 1) before)
+    go false e before = rw e (count_by_more_no f xs n 0 (omega arith) e ∙ (before ∙ omega arith))
 
-pub bit_none : (w : ℕ) → w ≡ 0 → 0 ≡ one (not (eqb w 0))
-bit_none w e = rw e refl
-
-pub bit_one : (w : ℕ) → (w ≡ 0 → ⊥) → 1 ≡ one (not (eqb w 0))
-bit_one w d = rw (ne_eqb w 0 d) refl
-
-pub record Counting (marked : List ℕ) (i count : ℕ) : Type 0 where
-  pub within : i ≤ 1024
-  pub counted : count ≡ marks marked i
-
-pub counting_none : (marked : List ℕ) → Counting marked 0 0
-unfolding count_below
-counting_none marked = record { within = omega arith; counted = refl }
-
-module _ (marked : List ℕ) (i count : ℕ) (c : Counting marked i count) where
-  bits_most : (b : Bool) → one b ≤ 1
-  bits_most true = omega arith
-  bits_most false = omega arith
-
-  pub counting_fits : (b : ℕ) → b ≡ one (not (eqb (get_or marked i 0) 0)) → count + b < 2 ^ 64
-  counting_fits b e = omega (arith, c.counted, count_most (λ k. not (eqb (get_or marked k 0) 0)) i, c.within, e, bits_most (not (eqb (get_or marked i 0) 0)))
-
-  pub counting_more : i < 1024 → (b : ℕ) → b ≡ one (not (eqb (get_or marked i 0) 0)) → Counting marked (i + 1) (count + b)
-  unfolding count_below
-  counting_more h b e = record { within = omega arith; counted = rw (c.counted, e, add-one i) refl }
-
-  pub counting_all : 1024 ≤ i → count ≡ marks marked 1024
-  counting_all h = let e : i ≡ 1024 = omega (arith, c.within) in c.counted ∙ ap (marks marked) e
+pub counted : (marked : List ℕ) (r : ℕ) → length marked ≡ 1024 → r ≡ count_by (λ w. not (eqb w 0)) marked → r ≡ marks marked 1024
+counted marked r n e =
+    let most : length marked ≤ 1024 = omega arith in
+    e ∙ (rw (take_all 1024 marked most) at (counts (λ w. not (eqb w 0)) marked 1024 (omega arith)))
 
 bit_some : (b : Bool) → not (eqb (one b) 0) ≡ b
 bit_some true = refl
@@ -135,9 +110,10 @@ pub different_none : (ws : List ℕ) (b s : ℕ) → length ws < s → 0 ≡ dif
 unfolding different
 different_none ws b s h = rw (different, lt-ltb (length ws) s h) refl
 
-pub different_counted : (ws : List ℕ) (b s step : ℕ) (marked : List ℕ) (r : ℕ) → s ≤ length ws → step ≡ max 1 ((length ws - s) / 64) → Marked ws b s step marked → r ≡ marks marked 1024 → r ≡ different ws b s
+pub different_counted : (ws : List ℕ) (b s step : ℕ) (marked : List ℕ) (r : ℕ) → s ≤ length ws → step ≡ max ((length ws - s) / 64) 1 → Marked ws b s step marked → r ≡ marks marked 1024 → r ≡ different ws b s
 unfolding different
-different_counted ws b s step marked r h es m e =
+different_counted ws b s step marked r h er m e =
+    let es : step ≡ max 1 ((length ws - s) / 64) = omega (arith, er) in
     e
     ∙ (count_same (λ k. not (eqb (get_or marked k 0) 0)) (λ k. some_taken ws b s step k 0) 1024 (λ k l. rw (m.entries k l) (bit_some (some_taken ws b s step k 0)))
     ∙ rw (different, le-ltb (length ws) s h, es) refl)

@@ -2,62 +2,32 @@
 // how long a comparison takes.
 #![tactic(auto)]
 
-ghost use Rattle.std.specs.Prelude.{◌≡◌, not, ◌≤◌, ◌<◌, min, max, eqb, length, drop, replicate};
+ghost use Rattle.std.specs.Prelude.{◌≡◌, ◌≤◌, ◌<◌, min, max, length, drop, replicate};
 ghost use Rattle.symbol.specs.Word.{is_call};
-ghost use Rattle.tiling.specs.Tally.{one};
-ghost use Rattle.bounds.specs.Workspace.{Space, state};
+ghost use Rattle.bounds.specs.Workspace.{state};
 ghost use Rattle.lengths.specs.Lengths.{Marked, marks, different, worthwhile, short_length, climbed, longer_length, at_once, enough, first_length, longer, stretch, longest, left, part_of};
 
-use bounds::Job;
-use index::Pass;
+use bounds::{Job, View};
 use tile::PatternAt;
-
-// The larger of two lengths.
-fn larger(a: usize, b: usize) -> usize
-    ensures { result ≡ max a b }
-{
-    if a < b {
-        return b;
-    }
-    a
-}
 
 // Marks the places of every step-th window of s words, of 64 at the most, from the last to the first.
 fn mark_windows(words: &[u32], b: u32, s: usize, step: usize, marked: &mut [u32; 1024])
     requires { (1 ≤ step) × (1 ≤ s) × (s ≤ length words.now) × (length words.now ≤ 2048) × (marked.old ≡ replicate 1024 0) }
     ensures { Marked words.now b s step marked.new }
 {
-    let mut i = buffer::lesser((words.len() - s) / step, 63) + 1;
-    while 0 < i {
-        i -= 1;
+    let count = ((words.len() - s) / step).min(63) + 1;
+    for i in (0..count).rev() {
         let at = i * step;
-        let end = at + s;
-        let h = window::hash_of(b, &words[at..end]);
-        bounds::store(marked, index::place_of(h), 1);
+        let h = window::hash_of(b, &words[at..at + s]);
+        marked[index::place_of(h)] = 1;
     }
-}
-
-// 1 for a word that is not 0, else 0.
-fn bit(w: u32) -> usize
-    ensures { result ≡ one (not (eqb w 0)) }
-{
-    if w == 0 {
-        return 0;
-    }
-    1
 }
 
 // How many are marked.
 fn count_marked(marked: &[u32; 1024]) -> usize
     ensures { result ≡ marks marked.now 1024 }
 {
-    let mut count = 0;
-    let mut i = 0;
-    while i < 1024 {
-        count += bit(marked[i]);
-        i += 1;
-    }
-    count
+    marked.iter().filter(|w| **w != 0).count()
 }
 
 // How many different places 64 windows of s words have, taken at equal distances, or as many as there are; 0 where no window fits.
@@ -69,7 +39,7 @@ fn differing(words: &[u32], b: u32, s: usize) -> usize
         return 0;
     }
     let mut marked = [0u32; 1024];
-    let step = larger(1, (words.len() - s) / 64);
+    let step = ((words.len() - s) / 64).max(1);
     mark_windows(words, b, s, step, &mut marked);
     count_marked(&marked)
 }
@@ -91,13 +61,11 @@ fn short_length(words: &[u32], b: u32, s: usize) -> usize
     ensures { result ≡ short_length words.now b s 3 }
 {
     let mut length = s;
-    let mut i = 0usize;
-    while i < 3 {
+    for _ in 0..3usize {
         if pays(words, b, length) {
             return length;
         }
         length *= 2;
-        i += 1;
     }
     0
 }
@@ -110,8 +78,7 @@ fn climb(words: &[u32], b: u32, s: usize, few: usize) -> usize
 {
     let mut length = s;
     let mut before = few;
-    let mut i = 0usize;
-    while i < 3 {
+    for _ in 0..3usize {
         let now = differing(words, b, length);
         if 44 <= now {
             return length;
@@ -121,9 +88,8 @@ fn climb(words: &[u32], b: u32, s: usize, few: usize) -> usize
         }
         before = now;
         length *= 2;
-        i += 1;
     }
-    larger(s, buffer::lesser(length / 4, 2048))
+    s.max((length / 4).min(2048))
 }
 
 // A length to begin with where windows of the minimum length are too much alike: a few words more, if that is enough; else the
@@ -139,12 +105,7 @@ fn longer_length(words: &[u32], b: u32, minimum: usize, given: usize, few: usize
     if words.len() <= 256 {
         return minimum;
     }
-    climb(
-        words,
-        b,
-        larger(minimum, buffer::lesser(larger(given, 20), 64)),
-        few,
-    )
+    climb(words, b, minimum.max(given.clamp(20, 64)), few)
 }
 
 // Whether one pass, at the minimum, is made without a look at the windows: the pattern is short, or the multiplier even. Then
@@ -165,21 +126,23 @@ fn enough_of(n: usize) -> usize
     44
 }
 
-// The search length of the first pass: the minimum, so that one pass is all, unless windows so short are too much alike.
-pub fn first_length(ws: &[u32], pass: Pass) -> usize
-    requires { Space pass.job ws.now × (1 ≤ pass.job.minimum) × (pass.job.minimum ≤ pass.s) × (pass.s ≤ 2048) }
-    ensures { result ≡ first_length (state pass.job ws.now).pattern pass.multiplier pass.job.minimum pass.s }
+// The search length of the first pass: the minimum, so that one pass is all, unless windows so short are too much alike; then from the
+// given one on.
+pub fn first_length(view: &View<'_>, multiplier: u32, given: usize) -> usize
+    requires { (1 ≤ view.now.job.minimum) × (view.now.job.minimum ≤ given) × (given ≤ 2048) }
+    ensures { result ≡ first_length (state view.now.job view.now.words.now).pattern multiplier view.now.job.minimum given }
 {
-    let n = pass.job.n;
-    let minimum = pass.job.minimum;
-    if at_once(n, minimum, pass.multiplier) {
+    let n = view.job.n;
+    let minimum = view.job.minimum;
+    if at_once(n, minimum, multiplier) {
         return minimum;
     }
-    let few = differing(&ws[0..n], pass.multiplier, minimum);
+    let pattern = &view.words[0..n];
+    let few = differing(pattern, multiplier, minimum);
     if enough_of(n) <= few {
         return minimum;
     }
-    longer_length(&ws[0..n], pass.multiplier, minimum, pass.s, few)
+    longer_length(pattern, multiplier, minimum, given, few)
 }
 
 // One more than the stretch after a call, and 0 where the word is no call.
@@ -200,39 +163,35 @@ fn longest_in(words: &[u32], from: usize, to: usize, after: usize) -> usize
 {
     let mut most = after;
     let mut free = 0;
-    let mut i = to;
-    while from < i {
-        i -= 1;
+    for i in (from..to).rev() {
         free = stretch_at(words[i], free);
-        most = larger(most, free);
+        most = most.max(free);
     }
     most
 }
 
 // The longest stretch of calls of the pattern. Only free words are looked at, stretch by stretch, from the last to the first.
-fn longest_stretch(ws: &[u32], job: Job) -> usize
-    requires { Space job ws.now }
-    ensures { result ≡ longest (state job ws.now).pattern }
+fn longest_stretch(view: &View<'_>) -> usize
+    ensures { result ≡ longest (state view.now.job view.now.words.now).pattern }
 {
-    let n = job.n;
+    let n = view.job.n;
     let mut most = 0;
-    let mut part = bounds::rows_before(ws, job, PatternAt(n));
+    let mut part = view.rows_before(PatternAt(n));
     while 0 < part.to.0 {
-        most = longest_in(&ws[0..n], part.from.0, part.to.0, most);
-        part = bounds::rows_before(ws, job, part.from);
+        most = longest_in(&view.words[0..n], part.from.0, part.to.0, most);
+        part = view.rows_before(part.from);
     }
     most
 }
 
-// The longest stretch of calls that is left of the pattern after a pass; 0 where that was the last, at the minimum.
-pub fn left_of(ws: &[u32], pass: Pass) -> usize
-    requires { Space pass.job ws.now }
-    ensures { result ≡ left (state pass.job ws.now).pattern pass.job.minimum pass.s }
+// The longest stretch of calls that is left of the pattern after a pass at s words; 0 where that was the last, at the minimum.
+pub fn left_of(view: &View<'_>, s: usize) -> usize
+    ensures { result ≡ left (state view.now.job view.now.words.now).pattern view.now.job.minimum s }
 {
-    if pass.s <= pass.job.minimum {
+    if s <= view.job.minimum {
         return 0;
     }
-    longest_stretch(ws, pass.job)
+    longest_stretch(view)
 }
 
 // A quarter of the search length where more than two thirds of n words are covered, else half of it.
@@ -246,11 +205,11 @@ fn part_of(s: usize, covered: usize, n: usize) -> usize
     s / 2
 }
 
-// The next search length: such a part, or the longest stretch where that is shorter, and at least the minimum.
-pub fn next_length(pass: Pass, stretch: usize, covered: usize) -> usize
-    requires { (covered ≤ 2048) × (pass.job.n ≤ 2048) }
-    ensures { result ≡ max pass.job.minimum (min (part_of pass.s covered pass.job.n) stretch) }
+// The search length after s: such a part of it, or the longest stretch where that is shorter, and at least the minimum.
+pub fn next_length(job: Job, s: usize, stretch: usize, covered: usize) -> usize
+    requires { (covered ≤ 2048) × (job.n ≤ 2048) }
+    ensures { result ≡ max job.minimum (min (part_of s covered job.n) stretch) }
 {
-    let part = part_of(pass.s, covered, pass.job.n);
-    larger(pass.job.minimum, buffer::lesser(part, stretch))
+    let part = part_of(s, covered, job.n);
+    job.minimum.max(part.min(stretch))
 }

@@ -2,7 +2,7 @@
 // wrote.
 #![tactic(auto)]
 
-ghost use Rattle.std.specs.Prelude.{◌≡◌, [], ◌∷◌, ◌+◌, ◌*◌, ◌≤◌, nat_abs, length};
+ghost use Rattle.std.specs.Prelude.{◌≡◌, [], ◌∷◌, ◌+◌, ◌*◌, ◌≤◌, length};
 ghost use Rattle.lines.specs.Text.{decimal, signed, spaced, phrase, line};
 ghost use Rattle.lines.specs.Appended.{Appended};
 
@@ -26,22 +26,12 @@ pub fn number(out: &mut [u8], at: usize, n: u32) -> usize
     append(out, at, &digits[..count])
 }
 
-// The size of a number without its sign.
-fn magnitude(z: i32) -> u32
-    ensures { result ≡ nat_abs z }
-{
-    if z < 0 {
-        return (-(z + 1)) as u32 + 1;
-    }
-    z as u32
-}
-
 // Writes a number with its sign where it is below zero.
 pub fn signed_number(out: &mut [u8], at: usize, z: i32) -> usize
     requires { at + 11 ≤ length out.old }
     ensures { Appended 11 (signed z) at out.old result out.new }
 {
-    let size = magnitude(z);
+    let size = z.unsigned_abs();
     if z < 0 {
         let after = append(out, at, b"-");
         return number(out, after, size);
@@ -64,10 +54,8 @@ pub fn spaced_numbers(out: &mut [u8], at: usize, numbers: &[u32]) -> usize
     ensures { Appended (11 * length numbers.now) (spaced numbers.now) at out.old result out.new }
 {
     let mut end = at;
-    let mut i = 0;
-    while i < numbers.len() {
-        end = spaced_number(out, end, numbers[i]);
-        i += 1;
+    for n in numbers {
+        end = spaced_number(out, end, *n);
     }
     end
 }

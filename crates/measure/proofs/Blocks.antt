@@ -4,27 +4,13 @@
 use Prim.Native.Nat.{ℕ, ◌+◌, ◌-◌, ◌%◌, ◌≤◌, ◌<◌}
 use native.Mathlib.Omega.{arith}
 use mathlib.Core.Path.{◌≡◌, refl, sym, ◌∙◌}
-use mathlib.Core.Bool.{Bool, true, false, ◌&&◌}
+use mathlib.Core.Bool.{Bool, true, false}
 use mathlib.Core.List.{List}
-use borrow.Author.Tests.{le-leb, leb-true, leb-false}
+use borrow.Author.Tests.{leb-true, leb-false}
 use lib.Dec.{leb}
 use lib.ListN.{length, take, drop, length-drop}
 use Rattle.measure.specs.Block.{block, whole_blocks}
 use Rattle.buffer.proofs.Buffer.{tail_is}
-
--- ---- a block: whether its first i tests hold
-pub record Tested (l i : ℕ) (all : Bool) : Type 0 where
-  pub within : i ≤ block
-  pub held : all ≡ leb i l
-
-pub tested_none : (l : ℕ) → Tested l 0 true
-tested_none l = record { within = omega arith; held = sym (le-leb 0 l (omega arith)) }
-
-pub tested_more : (l i : ℕ) (all r : Bool) → Tested l i all → i < block → (leb i l && r) ≡ leb (i + 1) l → Tested l (i + 1) (all && r)
-tested_more l i all r t h e = record { within = omega arith; held = rw t.held e }
-
-pub tested_all : (l i : ℕ) (all : Bool) → Tested l i all → block ≤ i → all ≡ leb block l
-tested_all l i all t h = let e : i ≡ block = omega (arith, t.within) in rw e at t.held
 
 -- ---- block after block: n tests hold, in whole blocks
 pub record Blocks (l n : ℕ) : Type 0 where

@@ -1,2 +1,3 @@
 pub mod Block
 pub mod Before
+pub mod Tested

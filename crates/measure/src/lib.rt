@@ -4,51 +4,62 @@
 #![tactic(auto)]
 
 ghost use Rattle.std.specs.Prelude.{◌≡◌, ◌≤◌, max, leb, length};
-ghost use Rattle.tiling.specs.Run.{equal_run};
+ghost use Rattle.tiling.specs.Run.{leading, equal_run};
 ghost use Rattle.measure.specs.Block.{block, whole_blocks, counted};
 ghost use Rattle.measure.specs.Before.{before};
+ghost use Rattle.measure.specs.Tested.{Tested};
 
 // How many words a block has.
 const BLOCK: usize = 8;
 
-// Whether the first words of two parts match one by one, as many as a block has.
-fn block_matches(pattern: &[u32], text: &[u32]) -> bool
-    requires { (block ≤ length pattern.now) × (block ≤ length text.now) }
-    ensures { result ≡ leb block (equal_run pattern.now text.now) }
+// Whether the first words of two parts pass a test pair by pair, as many as a block has. Every pair is looked at, so that the compiler
+// can test several at once.
+fn block_passes<F: Fn(u32, u32) -> bool + Copy>(words: &[u32], others: &[u32], passes: F) -> bool
+    requires room { (block ≤ length words.now) × (block ≤ length others.now) }
+    requires callable { F.IsAlwaysCallable passes }
+    ensures { Tested (F.post passes) (λ test. result ≡ leb block (leading test words.now others.now)) }
 {
-    let mut all = true;
-    let mut i = 0;
-    while i < BLOCK {
-        all = all & symbol::equal_calls(pattern[i], text[i]);
-        i += 1;
-    }
-    all
+    words[..BLOCK]
+        .iter()
+        .zip(&others[..BLOCK])
+        .fold(true, |all, (w, o)| all & passes(*w, *o))
 }
 
-// How many words match one by one from the start of two parts, in whole blocks.
-fn blocks_run(pattern: &[u32], text: &[u32]) -> usize
-    ensures { result ≡ whole_blocks (equal_run pattern.now text.now) }
+// How many pairs pass a test one after another from the start of two parts, in whole blocks. (As a chain over `chunks_exact` it was
+// tried: the search does not find that `block_passes` may be called on each pair of blocks, nor the count.)
+fn blocks_passed<F: Fn(u32, u32) -> bool + Copy>(words: &[u32], others: &[u32], passes: F) -> usize
+    requires { F.IsAlwaysCallable passes }
+    ensures room { (result ≤ length words.now) × (result ≤ length others.now) }
+    ensures passed { Tested (F.post passes) (λ test. result ≡ whole_blocks (leading test words.now others.now)) }
 {
     let mut n = 0;
-    while BLOCK <= pattern.len() - n
-        && BLOCK <= text.len() - n
-        && block_matches(&pattern[n..], &text[n..])
+    while BLOCK <= words.len() - n
+        && BLOCK <= others.len() - n
+        && block_passes(&words[n..], &others[n..], passes)
     {
         n += BLOCK;
     }
     n
 }
 
-// How many words match one by one from the start of two parts, of which some are known to.
-fn run_from(pattern: &[u32], text: &[u32], known: usize) -> usize
-    requires { known ≤ equal_run pattern.now text.now }
-    ensures { result ≡ equal_run pattern.now text.now }
+// How many pairs pass a test one after another from the start of two parts, of which some are known to.
+fn passed_from<F: Fn(u32, u32) -> bool + Copy>(
+    words: &[u32],
+    others: &[u32],
+    known: usize,
+    passes: F,
+) -> usize
+    requires room { (known ≤ length words.now) × (known ≤ length others.now) }
+    requires callable { F.IsAlwaysCallable passes }
+    ensures { Tested (F.post passes) (λ test. known ≤ leading test words.now others.now → result ≡ leading test words.now others.now) }
 {
-    let mut n = known;
-    while n < pattern.len() && n < text.len() && symbol::equal_calls(pattern[n], text[n]) {
-        n += 1;
-    }
-    n
+    let end = words.len().min(others.len());
+    let more = words[known..end]
+        .iter()
+        .zip(&others[known..end])
+        .take_while(|(w, o)| passes(**w, **o))
+        .count();
+    known + more
 }
 
 // The run, of which one longer than best is looked for. The words of its first block are looked at one by one only where they decide: else
@@ -56,11 +67,12 @@ fn run_from(pattern: &[u32], text: &[u32], known: usize) -> usize
 pub fn measured_run(pattern: &[u32], text: &[u32], best: usize) -> usize
     ensures { result ≡ counted best (equal_run pattern.now text.now) }
 {
-    let whole = blocks_run(pattern, text);
+    let matches = |p, t| symbol::equal_calls(p, t);
+    let whole = blocks_passed(pattern, text, matches);
     if (whole < BLOCK) & (BLOCK - 1 <= best) {
         return 0;
     }
-    run_from(pattern, text, whole)
+    passed_from(pattern, text, whole, matches)
 }
 
 // The run where it is longer than best, else best. Where the words at offset best do not match, it is no longer, and nothing more is
@@ -84,41 +96,11 @@ pub fn longer_run(pattern: &[u32], text: &[u32], best: usize) -> usize
     n
 }
 
-// Whether a and b never stand side by side at the first positions of two parts, as many as a block has: a in the one, b in the other.
-fn block_lacks(words: &[u32], others: &[u32], a: u32, b: u32) -> bool
-    requires { (block ≤ length words.now) × (block ≤ length others.now) }
-    ensures { result ≡ leb block (before a b words.now others.now) }
-{
-    let mut all = true;
-    let mut i = 0;
-    while i < BLOCK {
-        all = all & ((words[i] != a) | (others[i] != b));
-        i += 1;
-    }
-    all
-}
-
-// How many positions come before the first at which a and b stand side by side, in whole blocks.
-fn blocks_before(words: &[u32], others: &[u32], a: u32, b: u32) -> usize
-    ensures { result ≡ whole_blocks (before a b words.now others.now) }
-{
-    let mut n = 0;
-    while BLOCK <= words.len() - n
-        && BLOCK <= others.len() - n
-        && block_lacks(&words[n..], &others[n..], a, b)
-    {
-        n += BLOCK;
-    }
-    n
-}
-
 // How many positions come before the first at which the one part has a and the other b; where none does, as many as both have.
 pub fn positions_before(words: &[u32], others: &[u32], a: u32, b: u32) -> usize
     ensures { result ≡ before a b words.now others.now }
 {
-    let mut n = blocks_before(words, others, a, b);
-    while n < words.len() && n < others.len() && (words[n] != a) | (others[n] != b) {
-        n += 1;
-    }
-    n
+    let passes = |w, o| (w != a) | (o != b);
+    let whole = blocks_passed(words, others, passes);
+    passed_from(words, others, whole, passes)
 }

@@ -1,7 +1,7 @@
 -- What merging two records gives for any words and any buffer.
 use Rattle.std.specs.Prelude.{ℕ, ◌+◌, not, List, eqb, ltb, length}
-use Rattle.symbol.specs.Refusal.{refuse, outcome, counted}
-use Rattle.symbol.specs.declared.Counted.{Counted}
+use Rattle.refusal.specs.Refusal.{refuse, outcome, counted}
+use Rattle.refusal.specs.declared.Counted.{Counted}
 use Rattle.buffer.specs.Buffer.{onto}
 use Rattle.record.specs.Format.{id_of, encode}
 use Rattle.record.specs.Reading.{head, count, sequence, fault}

@@ -1,7 +1,10 @@
 -- The passes of a comparison, one after another. No reader of the engine's contract needs it.
-use Rattle.std.specs.Prelude.{ℕ}
-use Rattle.index.specs.declared.Pass.{Pass}
+use Rattle.std.specs.Prelude.{ℕ, ◌≡◌}
+use Rattle.index.specs.declared.pass.Pass.{Pass}
 
 -- The same pass at another search length.
-abbrev pub at_length : Pass → ℕ → Pass
-at_length x s = record { job = x.job; s = s; multiplier = x.multiplier; buckets = x.buckets }
+pub record AtLength (x : Pass) (s : ℕ) (y : Pass) : Type 0 where
+  pub job : y.job ≡ x.job
+  pub length : y.s ≡ s
+  pub multiplier : y.multiplier ≡ x.multiplier
+  pub buckets : y.buckets ≡ x.buckets

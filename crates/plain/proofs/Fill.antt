@@ -9,21 +9,17 @@ use mathlib.Core.Bool.{Bool, true, false}
 use mathlib.Core.List.{List}
 use borrow.Author.Tests.{ltb-true, lt-ltb, le-ltb}
 use lib.Dec.{ltb}
-use lib.ListN.{drop, get_or, set, length-drop}
+use lib.ListN.{drop, get_or, length-drop}
 use Rattle.symbol.specs.Word.{equal_calls}
 use Rattle.symbol.proofs.Word.{and_left}
 use Rattle.tile.specs.declared.TextAt.{TextAt}
-use Rattle.bounds.specs.Workspace.{Space, state, bounds_from, bound}
-use Rattle.bounds.specs.Blocks.{Falling}
+use Rattle.bounds.specs.Workspace.{Space, state, bound}
 use Rattle.sweep.specs.Row.{Row, bound_by, free_words, before}
-use Rattle.sweep.specs.Progress.{Fits, Searched, UpperFrom, RowBound, Filled, Ready, Onward, Finished, Sweeping}
+use Rattle.sweep.specs.Progress.{Searched, UpperFrom, RowBound}
 use Rattle.bounds.specs.declared.Job.{Job}
 use Rattle.sweep.specs.declared.Found.{Found}
-use Rattle.sweep.specs.declared.Totals.{Totals}
 use Rattle.sweep.proofs.Told.{bound_tells, bound_told, free_tells, telling_both, before_some}
 use Rattle.sweep.proofs.Row.{row_small}
-use Rattle.sweep.proofs.Step.{lowered_sweep, lowered_lays, lowered_falls}
-use Rattle.sweep.proofs.Turn.{unmoved_fits, unmoved_finished}
 use Rattle.bounds.proofs.Workspace.{pattern_length}
 use Rattle.plain.specs.Bounds.{Capped, goes_on}
 
@@ -90,42 +86,3 @@ module _ (j : Job) (ws : List ℕ) (p cap : ℕ) (space : Space j ws) (inside : 
       within : Dec (j.minimum - 1 < f.len) → f.len ≤ cap
       within (yes l) = omega (arith, r.long l, level_caps f.t.0)
       within (no l) = omega (arith, l)
-
-pub sweeping_upper : (j : Job) (level p : ℕ) (ws b : List ℕ) (k : Totals) → Sweeping j level p ws b k → UpperFrom j ws 0
-sweeping_upper j level p ws b k w q t h l = w.bounded.upper q t l
-
-pub sweeping_least : (j : Job) (level p : ℕ) (ws b : List ℕ) (k : Totals) → level ≡ bound j ws p → Sweeping j (bound j ws p) p ws b k → j.minimum ≤ level
-sweeping_least j level p ws b k e w = omega (arith, w.long, e)
-
-pub sweeping_some : (j : Job) (level p : ℕ) (ws b : List ℕ) (k : Totals) → Sweeping j level p ws b k → 1 ≤ level
-sweeping_some j level p ws b k w = omega (arith, w.long, w.fits.least)
-
-pub sweeping_entered : (j : Job) (level p : ℕ) (ws b : List ℕ) (k : Totals) → level ≡ bound j ws p → Sweeping j (bound j ws p) p ws b k → Sweeping j level p ws b k
-sweeping_entered j level p ws b k e w = rw e w
-
-pub sweeping_left : (j : Job) (level from p : ℕ) (ws ws' b' : List ℕ) (k' : Totals) → level ≡ bound j ws p → Sweeping j level from ws' b' k' → Sweeping j (bound j ws p) from ws' b' k'
-sweeping_left j level from p ws ws' b' k' e w = rw e at w
-
--- A shorter run is the row's new bound.
-module _ (j : Job) (level p : ℕ) (ws b : List ℕ) (k : Totals) (f : Found) (read : level ≡ bound j ws p) (w : Sweeping j (bound j ws p) p ws b k) (inside : p < j.n) (r : Searched j ws level p f) where
-  pub sweeping_small : f.len ≤ 2048
-  sweeping_small = r.small
-
-  module _ (short : f.len ≡ level → ⊥) (ws' : List ℕ) (made : ws' ≡ set ws (bounds_from j + p) f.len) where
-    pub sweeping_lowered : Sweeping j (bound j ws p) (p + 1) ws' b k
-    sweeping_lowered = sweeping_left j level (p + 1) p ws ws' b k read (lowered_sweep j level p ws b k f (sweeping_entered j level p ws b k read w) inside (sym read) r short ws' made)
-
-    pub sweeping_onward : Onward j ws b k ws' b k
-    sweeping_onward = lowered_lays j level p ws b k f (sweeping_entered j level p ws b k read w) inside (sym read) r short ws' made
-
-    pub sweeping_falls : Falling j ws ws'
-    sweeping_falls = lowered_falls j level p ws b k f (sweeping_entered j level p ws b k read w) inside (sym read) r short ws' made
-
--- ---- all of them
-module _ (j : Job) (ws ws' b : List ℕ) (k : Totals) (r : Filled j ws ws') where
-  pub filled_ready : Fits j ws b k → Ready j ws' b k
-  filled_ready fits = record { fits = unmoved_fits j ws ws' b k r.same r.space fits; upper = r.upper }
-
-  -- What is laid from there is laid from the start.
-  pub filled_finished : (n : ℕ) (ws₂ b₂ : List ℕ) (k₂ : Totals) → Finished j n ws' b k ws₂ b₂ k₂ → Finished j n ws b k ws₂ b₂ k₂
-  filled_finished n ws₂ b₂ k₂ = unmoved_finished j ws ws' b k r.same n ws₂ b₂ k₂

@@ -1,5 +1,4 @@
 pub mod Next
-pub mod Scan
-pub mod View
+pub mod Seen
+pub mod Parts
 pub mod Fill
-pub mod Accepted

@@ -1,13 +1,10 @@
 -- The record format as numbers: a header splits into its id and its count, a trailer is one number, and a checksum grows word by word.
 -- Assumes nothing.
-use Prim.Native.Nat.{ℕ, ◌+◌, ◌*◌, ◌%◌, ◌^◌, ◌≤◌, ◌<◌}
-use native.Mathlib.Nat.{add_assoc}
+use Prim.Native.Nat.{ℕ, ◌+◌, ◌*◌, ◌%◌, ◌^◌, ◌<◌}
 use native.Mathlib.Omega.{arith}
-use native.Mathlib.Numerals.{add-one}
-use mathlib.Core.Path.{◌≡◌, refl, sym}
-use mathlib.Core.List.{List, [], ◌∷◌, ◌++◌}
-use lib.ListN.{length, take, get_or}
-use lib.Seq.{take-suc, take_all}
+use Rattle.std.proofs.Common.{fold}
+use mathlib.Core.Path.{◌≡◌, refl, ◌∙◌}
+use mathlib.Core.List.{List, [], ◌∷◌}
 use Rattle.symbol.specs.Word.{kind, low}
 use Rattle.record.specs.Format.{header, id_of, count_of, sum_low, checksum, trailer}
 
@@ -47,30 +44,12 @@ pub trailer_parts : (w : ℕ) (ws : List ℕ) → kind w ≡ 3 → low w ≡ che
 unfolding kind low trailer
 trailer_parts w ws k l = omega arith
 
--- ---- the checksum
-pub sum_append : (xs ys : List ℕ) → sum_low (xs ++ ys) ≡ sum_low xs + sum_low ys
-unfolding sum_low
-sum_append [] ys = omega arith
-sum_append (x ∷ xs) ys = rw (sum_append xs ys) (sym (add_assoc (low x) (sum_low xs) (sum_low ys)))
-
--- ---- the loop of trailer_of: the checksum of the header and the first i words
-pub record Summed (h : ℕ) (s : List ℕ) (sum i : ℕ) : Type 0 where
-  pub within : i ≤ length s
-  pub small : sum < 2 ^ 30
-  pub held : sum ≡ checksum (h ∷ take i s)
-
-pub summed_none : (h : ℕ) (s : List ℕ) → Summed h s (h % 2 ^ 30) 0
+-- ---- the fold of trailer_of: the words are added whole, and the sum wraps at 2^32; modulo 2^30 it is the checksum of the header and the words
+added : (h : ℕ) (s : List ℕ) → fold (λ sum w. (sum + w) % 2 ^ 32) h s % 2 ^ 30 ≡ checksum (h ∷ s)
 unfolding checksum sum_low low
-summed_none h [] = record { within = omega arith; small = omega arith; held = omega arith }
-summed_none h (w ∷ s) = record { within = omega arith; small = omega arith; held = omega arith }
+added h [] = omega arith
+added h (w ∷ s) = let e = added ((h + w) % 2 ^ 32) s in e ∙ omega arith
 
-pub summed_more : (h : ℕ) (s : List ℕ) (sum i : ℕ) → Summed h s sum i → i < length s → Summed h s ((sum + get_or s i 0 % 2 ^ 30) % 2 ^ 30) (i + 1)
-unfolding checksum sum_low low
-summed_more h s sum i r k =
-    let e : sum_low (h ∷ take (i + 1) s) ≡ sum_low (h ∷ take i s) + get_or s i 0 % 2 ^ 30 =
-    rw (add-one i, take-suc s i 0 k, sum_append (take i s) (get_or s i 0 ∷ [])) (omega arith) in
-    record { within = omega arith; small = omega arith; held = omega (arith, r.held) }
-
-pub summed_all : (h : ℕ) (s : List ℕ) (sum i : ℕ) → Summed h s sum i → length s ≤ i → 3 * 2 ^ 30 + sum ≡ trailer (h ∷ s)
+pub summed : (h sum : ℕ) (s : List ℕ) → sum ≡ fold (λ sum w. (sum + w) % 2 ^ 32) h s → 3 * 2 ^ 30 + sum % 2 ^ 30 ≡ trailer (h ∷ s)
 unfolding trailer
-summed_all h s sum i r k = rw (r.held, take_all i s k) refl
+summed h sum s e = rw (e, added h s) refl

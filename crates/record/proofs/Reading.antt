@@ -1,6 +1,8 @@
--- Why the code's tests are the causes of read_refusal (the part handed on is the sequence, and a word has kind 3 and the right sum just when it is the trailer), and what an accepted src is known to be.
+-- Why the code's test of the last word is a cause of read_refusal (a word has kind 3 and the right sum just when it is the trailer), what an
+-- accepted src is known to be, and what decides in a chain that begins with its faults.
 -- Assumes nothing.
-use Prim.Native.Nat.{ℕ, ◌+◌, ◌-◌, ◌≤◌, ◌<◌}
+use borrow.Author.Rules.{rules}
+use Prim.Native.Nat.{ℕ, ◌+◌, ◌-◌, ◌≤◌}
 use native.Mathlib.Omega.{arith}
 use native.Mathlib.Numerals.{add-one}
 use mathlib.Core.Path.{◌≡◌, refl, sym, ◌∙◌, ap}
@@ -12,11 +14,12 @@ use borrow.Author.Tests.{eq-eqb, ne_eqb, le-ltb, eqb-true, ltb-false, not-false}
 use Rattle.symbol.specs.Word.{kind, low}
 use Rattle.symbol.specs.Sequence.{all_sound}
 use Rattle.symbol.proofs.Word.{and_both, and_left, and_right}
-use Rattle.buffer.specs.Buffer.{onto}
-use Rattle.record.specs.Format.{id_of, trailer}
-use Rattle.record.specs.Reading.{head, count, sequence, closes, frame, content, fault, read_refusal, read_answer}
+use Rattle.record.specs.Format.{trailer}
+use Rattle.record.specs.Reading.{head, count, sequence, closes, frame, fault, read_refusal}
 use Rattle.record.proofs.Format.{kind_trailer, low_trailer, trailer_parts}
-use Rattle.symbol.proofs.Refusal.{refused, passed, clear, short_of, enough_for, Part, part_end, part_cause, part_then, part_stops, part_goes, outcome_refused}
+use Rattle.refusal.proofs.Causes.{clear}
+use Rattle.refusal.specs.Number.{number}
+use Rattle.refusal.specs.declared.Refusal.{Refusal}
 
 -- The first n + 1 words are the header and the n words after it.
 pub take_head : (src : List ℕ) (n : ℕ) → (length src ≡ 0 → ⊥) → take (n + 1) src ≡ head src ∷ take n (drop 1 src)
@@ -26,9 +29,6 @@ take_head (h ∷ src) n d = rw (add-one n) refl
 -- src[1..n + 1] is the n words after the header.
 pub part_words : (src : List ℕ) (n : ℕ) → take (n + 1 - 1) (drop 1 src) ≡ take n (drop 1 src)
 part_words src n = let e : n + 1 - 1 ≡ n = omega arith in rw e refl
-
-pub sound_cause : (src : List ℕ) (n : ℕ) (r b : Bool) → n ≡ count src → r ≡ all_sound (take (n + 1 - 1) (drop 1 src)) → not r ≡ b → not (all_sound (sequence src)) ≡ b
-sound_cause src n r b c e k = rw (← c, ← part_words src n, ← e) k
 
 -- ---- the trailer
 pub closes_trailer : (src : List ℕ) → closes src ≡ true → get_or src (count src + 1) 0 ≡ trailer (take (count src + 1) src)
@@ -59,17 +59,7 @@ module _ (src : List ℕ) (n t : ℕ) (whole : count src + 2 ≤ length src) (c 
       go true d = absurd (k (ap (λ i. get_or src (i + 1) 0) c ∙ (closes_trailer src d ∙ sym is_trailer)))
       go false d = refl
 
--- ---- the parts of the chain
-frame_part : (src : List ℕ) → Part (frame src)
-frame_part src =
-    part_cause _ (eqb (length src) 0) 8 (lit< tt)
-    (part_cause _ (not (eqb (kind (head src)) 0)) 9 (lit< tt)
-    (part_cause _ (ltb 2048 (count src)) 9 (lit< tt)
-    (part_cause _ (ltb (length src) (count src + 2)) 8 (lit< tt) part_end)))
-
-content_part : (src : List ℕ) → Part (content src)
-content_part src = part_cause _ (not (all_sound (sequence src))) 2 (lit< tt) (part_cause _ (not (closes src)) 10 (lit< tt) part_end)
-
+-- ---- what is known where no cause holds
 -- What a frame without a cause is known to be.
 pub record Framed (src : List ℕ) (later : ℕ) : Type 0 where
   pub headed : kind (head src) ≡ 0
@@ -90,29 +80,6 @@ framed src later e =
       rest = d.rest;
     }
 
--- ---- the numbers that fault returns; f and c are those of the frame and of the content
-module _ (src : List ℕ) (f : ℕ) (e : f ≡ frame src 0) where
-  pub frame_refused : (f ≡ 0 → ⊥) → f ≡ fault src 0
-  frame_refused d = part_stops (frame src) (frame_part src) f _ e d
-
-  pub frame_passed : f ≡ 0 → (c : ℕ) → c ≡ content src 0 → c ≡ fault src 0
-  frame_passed z c k = part_goes (frame src) (frame_part src) f c _ e z k
-
--- ---- the numbers that read_refusal returns; f is the fault
-pub fault_part : (src : List ℕ) → Part (fault src)
-fault_part src = part_then (frame src) (content src) (frame_part src) (content_part src)
-
-module _ (src : List ℕ) (room f : ℕ) (e : f ≡ fault src 0) where
-  pub fault_refused : (f ≡ 0 → ⊥) → f ≡ read_refusal src room
-  fault_refused d = part_stops (fault src) (fault_part src) f _ e d
-
-  pub room_refused : f ≡ 0 → (n : ℕ) → n ≡ count src → room < n → 11 ≡ read_refusal src room
-  room_refused z n c h = part_goes (fault src) (fault_part src) f 11 _ e z (refused _ 11 0 (short_of room n (count src) c h))
-
-  pub room_passed : f ≡ 0 → (n : ℕ) → n ≡ count src → n ≤ room → 0 ≡ read_refusal src room
-  room_passed z n c h = part_goes (fault src) (fault_part src) f 0 _ e z (passed _ 0 11 0 (enough_for room n (count src) c h) refl)
-
--- ---- what is known where no cause holds
 -- src starts with a record.
 pub record Recorded (src : List ℕ) : Type 0 where
   pub headed : kind (head src) ≡ 0
@@ -163,15 +130,11 @@ pub accepted_fits : (src : List ℕ) (room : ℕ) → read_refusal src room ≡ 
 accepted_fits src room e = ltb-false _ _ (clear (ltb room (count src)) 11 0 (lit< tt) (faultless src _ e).rest).first
 
 pub read_accepts : (src : List ℕ) (room : ℕ) → Recorded src → count src ≤ room → read_refusal src room ≡ 0
-read_accepts src room a fits = no_fault src _ a ∙ sym (passed _ 0 11 0 (le-ltb room (count src) fits) refl)
+read_accepts src room a fits = no_fault src _ a ∙ rw (le-ltb room (count src) fits) refl
 
--- ---- what read answers and leaves; n is the count
-module _ (src : List ℕ) (room r : ℕ) (e : r ≡ read_refusal src room) where
-  pub read_refused : (r ≡ 0 → ⊥) → record { refusal = r; id = 0; count = 0; used = 0 } ≡ read_answer src room
-  read_refused d = rw (← e, outcome_refused r (id_of (head src)) 0 d, outcome_refused r (count src) 0 d, outcome_refused r (count src + 2) 0 d) refl
+-- ---- a chain that begins with the faults of src: a fault stops it, and where there is none what is checked later decides
+pub fault_stops : (src : List ℕ) (e : Refusal) (later : ℕ) → number e ≡ fault src 0 → number e ≡ fault src later
+fault_stops src e later h = search rules
 
-  pub read_accepted : r ≡ 0 → (i n : ℕ) → i ≡ id_of (head src) → n ≡ count src → record { refusal = 0; id = i; count = n; used = n + 2 } ≡ read_answer src room
-  read_accepted z i n p q = rw (← e, z, p, q) refl
-
-pub read_copied : (src b b' : List ℕ) (n : ℕ) → n ≡ count src → b' ≡ onto (take (n + 1 - 1) (drop 1 src)) b → b' ≡ onto (sequence src) b
-read_copied src b b' n c k = rw (k, part_words src n, c) refl
+pub fault_passed : (src : List ℕ) (r later : ℕ) → 0 ≡ fault src 0 → r ≡ later → r ≡ fault src later
+fault_passed src r later z h = search rules

@@ -11,7 +11,7 @@ use lib.ListN.{length, get_or, take, drop, length-append, length-drop, get_or-ap
 use lib.Seq.{length-take-le, take-suc, take_at, drop_at, get_or_at, take-append-le, drop-append-le}
 use borrow.Author.Tests.{le-ltb, ne_eqb}
 use Rattle.symbol.specs.Sequence.{all_sound}
-use Rattle.symbol.specs.Refusal.{refuse}
+use Rattle.refusal.specs.Refusal.{refuse}
 use Rattle.buffer.specs.Buffer.{onto}
 use Rattle.record.specs.Format.{header, id_of, count_of, trailer, encode}
 use Rattle.record.specs.Reading.{head, count, sequence, closes, fault, read_refusal, read_buffer}

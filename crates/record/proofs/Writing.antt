@@ -16,7 +16,7 @@ use Rattle.buffer.proofs.Buffer.{onto_more, onto_part}
 use Rattle.record.specs.Format.{header, trailer, encode}
 use Rattle.record.specs.Writing.{write_refusal}
 use Rattle.record.proofs.Reading.{take_head, part_words}
-use Rattle.symbol.proofs.Refusal.{clear}
+use Rattle.refusal.proofs.Causes.{clear}
 
 -- A sequence that can be written to room words.
 pub record Writable (s : List ℕ) (room : ℕ) : Type 0 where

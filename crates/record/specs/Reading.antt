@@ -1,10 +1,13 @@
 -- What reading a record gives for any words and any buffer.
-use Rattle.std.specs.Prelude.{ℕ, ◌+◌, Bool, not, ◌&&◌, List, eqb, ltb, length, get_or, take, drop}
+use Rattle.std.specs.Prelude.{ℕ, ◌+◌, Bool, not, ◌&&◌, Result, Ok, Err, List, eqb, ltb, length, get_or, take, drop}
 use Rattle.symbol.specs.Word.{kind, low}
 use Rattle.symbol.specs.Sequence.{all_sound}
-use Rattle.symbol.specs.Refusal.{refuse, outcome}
+use Rattle.refusal.specs.Number.{number}
+use Rattle.refusal.specs.Refusal.{refuse, outcome}
+use Rattle.refusal.specs.declared.Refusal.{Refusal}
 use Rattle.buffer.specs.Buffer.{onto}
 use Rattle.record.specs.Format.{id_of, count_of, checksum}
+use Rattle.record.specs.declared.Found.{Found}
 use Rattle.record.specs.declared.ReadAnswer.{ReadAnswer}
 
 -- The first word, and the count that it gives.
@@ -51,6 +54,11 @@ read_answer src room =
       count = outcome (read_refusal src room) (count src) 0;
       used = outcome (read_refusal src room) (count src + 2) 0;
     }
+
+-- The answer as which what is found is given, or a refusal.
+abbrev pub read_as : Result Found Refusal → ReadAnswer
+read_as (Ok found) = record { refusal = 0; id = found.id; count = found.count; used = found.used }
+read_as (Err e) = record { refusal = number e; id = 0; count = 0; used = 0 }
 
 -- "and copies the strand to the start of a lent buffer"
 abbrev pub read_buffer : List ℕ → List ℕ → List ℕ

@@ -1,8 +1,8 @@
 -- What writing a record gives for any id, any words and any buffer.
 use Rattle.std.specs.Prelude.{ℕ, ◌+◌, not, List, ltb, length}
 use Rattle.symbol.specs.Sequence.{all_sound, too_long}
-use Rattle.symbol.specs.Refusal.{refuse, outcome, counted}
-use Rattle.symbol.specs.declared.Counted.{Counted}
+use Rattle.refusal.specs.Refusal.{refuse, outcome, counted}
+use Rattle.refusal.specs.declared.Counted.{Counted}
 use Rattle.buffer.specs.Buffer.{onto}
 use Rattle.record.specs.Format.{encode}
 

@@ -11,7 +11,9 @@ use mir.Val.{SFits, of_z, to_z}
 use mir.Facts.{to_z-of_z}
 use Rattle.tiling.specs.Listing.{shift}
 use Rattle.tiling.specs.Demand.{tiles_in}
-use Rattle.tiling.specs.declared.Compared.{Compared}
+use Rattle.std.specs.Prelude.{Ok}
+use Rattle.tiling.specs.Outcome.{compared_as}
+use Rattle.tiling.specs.declared.Summary.{Summary}
 use Rattle.lines.specs.Text.{ascii, decimal, signed, spaced, phrase, line}
 use Rattle.lines.specs.Appended.{Appended}
 use Rattle.lines.proofs.Appended.{both}
@@ -55,8 +57,8 @@ tile_written first second len z at p r b₀ b₁ b₂ f s k x y =
     both x (rw read at y)
 
 -- ---- the whole report of an accepted comparison
-pub pair_written : (n m : ℕ) (a : Compared) (tiles : List ℕ) (i j minimum p q r : ℕ) (b₀ b₁ b₂ b₃ : List ℕ) → Laid n m a tiles → Appended 63 (opening i j minimum a.tiles) 0 b₀ p b₁ → Appended (45 * a.tiles) (tile_lines (tiles_in a.tiles tiles)) p b₁ q b₂ → Appended 61 (closing a.covered n m a.score) q b₂ r b₃ → Written (pair_lines i j minimum n m (tiles_in a.tiles tiles)) b₀ r b₃
+pub pair_written : (n m : ℕ) (s : Summary) (tiles : List ℕ) (i j minimum p q r : ℕ) (b₀ b₁ b₂ b₃ : List ℕ) → Laid n m (compared_as (Ok s)) tiles → Appended 63 (opening i j minimum s.tiles) 0 b₀ p b₁ → Appended (45 * s.tiles) (tile_lines (tiles_in s.tiles tiles)) p b₁ q b₂ → Appended 61 (closing s.covered n m s.score) q b₂ r b₃ → Written (pair_lines i j minimum n m (tiles_in s.tiles tiles)) b₀ r b₃
 unfolding pair_lines
-pair_written n m a tiles i j minimum p q r b₀ b₁ b₂ b₃ l x y z =
-    let few : 63 + (45 * a.tiles + 61) ≤ report_bytes = omega (arith, l.few) in
-    rw (length_tiles_in a.tiles tiles, ← l.covered, ← l.score) (written _ _ r b₀ b₃ few (both x (both y z)))
+pair_written n m s tiles i j minimum p q r b₀ b₁ b₂ b₃ l x y z =
+    let few : 63 + (45 * s.tiles + 61) ≤ report_bytes = omega (arith, l.few) in
+    rw (length_tiles_in s.tiles tiles, ← l.covered, ← l.score) (written _ _ r b₀ b₃ few (both x (both y z)))

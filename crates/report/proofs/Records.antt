@@ -5,19 +5,21 @@ use Prim.Native.Nat.{ℕ, ◌+◌, ◌-◌, ◌≤◌}
 use native.Mathlib.Omega.{arith}
 use mathlib.Core.Path.{◌≡◌, refl, sym, ◌∙◌, ap}
 use mathlib.Core.Bool.{Bool, true, false}
-use mathlib.Core.List.{List, [], ◌∷◌}
+use mathlib.Core.List.{List}
 use lib.Dec.{ltb}
 use lib.ListN.{length, take, drop, length-drop}
 use lib.Seq.{take_at, take_all, length-take-le}
-use Rattle.symbol.proofs.Refusal.{outcome_refused, outcome_accepted}
+use Rattle.std.specs.Prelude.{Result, Ok, Err}
+use Rattle.refusal.specs.declared.Refusal.{Refusal}
+use Rattle.refusal.proofs.Causes.{outcome_refused, outcome_accepted}
 use Rattle.buffer.specs.Buffer.{onto}
 use Rattle.buffer.proofs.Buffer.{length_onto}
 use Rattle.record.specs.Format.{id_of}
-use Rattle.record.specs.Reading.{head, count, sequence, read_refusal, read_answer, read_buffer}
-use Rattle.record.specs.declared.ReadAnswer.{ReadAnswer}
+use Rattle.record.specs.Reading.{head, count, sequence, read_refusal, read_as, read_answer, read_buffer}
+use Rattle.record.specs.declared.Found.{Found}
 use Rattle.record.proofs.Reading.{Recorded, accepted, accepted_fits}
-use Rattle.report.specs.Pair.{refused_line, unless, reading, from_pair, from_second, from_first, from_words}
-use Rattle.report.specs.Written.{Written}
+use Rattle.report.specs.Pair.{refused_line, unless, reading, from_pair, from_second, from_first}
+use Rattle.report.specs.Written.{Written, Held, Read}
 
 -- The room is never the cause.
 pub room_enough : (src : List ℕ) → read_refusal src 2048 ≡ reading src
@@ -27,95 +29,58 @@ room_enough src = go (ltb 2048 (count src)) refl
     go true e = rw e refl
     go false e = rw e refl
 
--- What a record gave, its sequence at the start of b'.
-pub record Got (src : List ℕ) (a : ReadAnswer) (b' : List ℕ) : Type 0 where
-  pub none : reading src ≡ 0
-  pub id : a.id ≡ id_of (head src)
-  pub used : a.used ≡ count src + 2
-  pub whole : a.used ≤ length src
-  pub fits : a.count ≤ length b'
-  pub short : a.count ≤ 2048
-  pub prefix : take a.count b' ≡ sequence src
+-- What reading answered for a buffer of 2,048 words.
+module _ (src b b' : List ℕ) (k : b' ≡ read_buffer src b) (room : length b ≡ 2048) where
+  held : (found : Found) → read_as (Ok found) ≡ read_answer src (length b) → Held src found b'
+  held found e =
+      let clear : read_refusal src (length b) ≡ 0 = sym (ap (λ x. x.refusal) e) in
+      let h : Recorded src = accepted src (length b) clear in
+      let fits : count src ≤ length b = accepted_fits src (length b) clear in
+      let counted : found.count ≡ count src = ap (λ x. x.count) e ∙ outcome_accepted (read_refusal src (length b)) (count src) 0 clear in
+      let used : found.used ≡ count src + 2 = ap (λ x. x.used) e ∙ outcome_accepted (read_refusal src (length b)) (count src + 2) 0 clear in
+      let copied : b' ≡ onto (sequence src) b = k ∙ outcome_accepted (read_refusal src (length b)) (onto (sequence src) b) b clear in
+      let size : length (sequence src) ≡ count src = length-take-le (count src) (drop 1 src) (omega (arith, length-drop 1 src, h.whole)) in
+      let long : length b' ≡ length b = ap length copied ∙ length_onto (sequence src) b (omega arith) in
+      record {
+        none = sym (room_enough src) ∙ (ap (λ n. read_refusal src n) (sym room) ∙ clear);
+        id = ap (λ x. x.id) e ∙ outcome_accepted (read_refusal src (length b)) (id_of (head src)) 0 clear;
+        used = used;
+        whole = omega (arith, h.whole);
+        fits = omega arith;
+        short = omega (arith, h.short);
+        prefix = rw (counted, copied) (take_at (sequence src) (drop (length (sequence src)) b) (count src) size);
+      }
 
-module _ (src : List ℕ) (a : ReadAnswer) (b b' : List ℕ) (e : a ≡ read_answer src (length b)) (k : b' ≡ read_buffer src b) (room : length b ≡ 2048) where
-  number : a.refusal ≡ reading src
-  number = ap (λ x. x.refusal) e ∙ (ap (λ n. read_refusal src n) room ∙ room_enough src)
+  pub read_there : (r : Result Found Refusal) → read_as r ≡ read_answer src (length b) → Read src r b'
+  read_there (Ok found) e = held found e
+  read_there (Err e) q = ap (λ x. x.refusal) q ∙ (ap (λ n. read_refusal src n) room ∙ room_enough src)
 
-  module _ (z : a.refusal ≡ 0) where
-    clear : read_refusal src (length b) ≡ 0
-    clear = sym (ap (λ x. x.refusal) e) ∙ z
+-- ---- what is written, o' in place of o with the length r
+module _ (src o : List ℕ) (r : ℕ) (o' : List ℕ) where
+  -- After a refusal the line of its number q, whatever would have followed.
+  module _ (q : ℕ) (why : q ≡ reading src) (some : q ≡ 0 → ⊥) (w : Written (refused_line q) o r o') where
+    unless_refused : (lines : List ℕ) → Written (unless (reading src) lines) o r o'
+    unless_refused lines = rw (← why, outcome_refused q lines (refused_line q) some) w
 
-    got : Got src a b'
-    got =
-        let h : Recorded src = accepted src (length b) clear in
-        let room : count src ≤ length b = accepted_fits src (length b) clear in
-        let counted : a.count ≡ count src = ap (λ x. x.count) e ∙ outcome_accepted (read_refusal src (length b)) (count src) 0 clear in
-        let used : a.used ≡ count src + 2 = ap (λ x. x.used) e ∙ outcome_accepted (read_refusal src (length b)) (count src + 2) 0 clear in
-        let copied : b' ≡ onto (sequence src) b = k ∙ outcome_accepted (read_refusal src (length b)) (onto (sequence src) b) b clear in
-        let size : length (sequence src) ≡ count src = length-take-le (count src) (drop 1 src) (omega (arith, length-drop 1 src, h.whole)) in
-        let long : length b' ≡ length b = ap length copied ∙ length_onto (sequence src) b (omega arith) in
-        record {
-          none = sym number ∙ z;
-          id = ap (λ x. x.id) e ∙ outcome_accepted (read_refusal src (length b)) (id_of (head src)) 0 clear;
-          used = used;
-          whole = omega (arith, h.whole);
-          fits = omega arith;
-          short = omega (arith, h.short);
-          prefix = rw (counted, copied) (take_at (sequence src) (drop (length (sequence src)) b) (count src) size);
-        }
-
-    -- The part of the buffer that is handed on.
-    pub prefix_fits : a.count ≤ length b'
-    prefix_fits = got.fits
-
-    pub prefix_count : a.count ≡ length (take a.count b')
-    prefix_count = sym (length-take-le a.count b' got.fits)
-
-    pub prefix_short : length (take a.count b') ≤ 2048
-    prefix_short = omega (arith, prefix_count, got.short)
-
-    pub used_fits : a.used ≤ length src
-    used_fits = got.whole
-
-  -- ---- what is written
-  module _ (o : List ℕ) (r : ℕ) (o' : List ℕ) where
-    -- After a refusal, whatever would have followed.
-    unless_refused : (a.refusal ≡ 0 → ⊥) → (lines : List ℕ) → Written (refused_line a.refusal) o r o' → Written (unless (reading src) lines) o r o'
-    unless_refused d lines w = rw (← number, outcome_refused a.refusal lines (refused_line a.refusal) d) w
-
-    pub second_refused : (i minimum : ℕ) (first : List ℕ) → (a.refusal ≡ 0 → ⊥) → Written (refused_line a.refusal) o r o' → Written (from_second i minimum first src) o r o'
+    pub second_refused : (i minimum : ℕ) (first : List ℕ) → Written (from_second i minimum first src) o r o'
     unfolding from_second
-    second_refused i minimum first d w = unless_refused d _ w
+    second_refused i minimum first = unless_refused _
 
-    pub first_refused : (minimum : ℕ) → (a.refusal ≡ 0 → ⊥) → Written (refused_line a.refusal) o r o' → Written (from_first minimum src) o r o'
+    pub first_refused : (minimum : ℕ) → Written (from_first minimum src) o r o'
     unfolding from_first
-    first_refused minimum d w = unless_refused d _ w
+    first_refused minimum = unless_refused _
 
-    pub second_accepted : (i minimum : ℕ) (first : List ℕ) → a.refusal ≡ 0 → Written (from_pair i a.id minimum first (take a.count b')) o r o' → Written (from_second i minimum first src) o r o'
+  module _ (found : Found) (b : List ℕ) (h : Held src found b) where
+    pub second_accepted : (i minimum : ℕ) (first : List ℕ) → Written (from_pair i found.id minimum first (take found.count b)) o r o' → Written (from_second i minimum first src) o r o'
     unfolding from_second
-    second_accepted i minimum first z w =
-        let g = got z in
-        let w' : Written (from_pair i (id_of (head src)) minimum first (sequence src)) o r o' = rw (← g.id, ← g.prefix) w in
-        rw (outcome_accepted (reading src) (from_pair i (id_of (head src)) minimum first (sequence src)) (refused_line (reading src)) g.none) w'
+    second_accepted i minimum first w =
+        let w' : Written (from_pair i (id_of (head src)) minimum first (sequence src)) o r o' = rw (← h.id, ← h.prefix) w in
+        rw (outcome_accepted (reading src) (from_pair i (id_of (head src)) minimum first (sequence src)) (refused_line (reading src)) h.none) w'
 
-    pub first_accepted : (minimum : ℕ) → a.refusal ≡ 0 → Written (from_second a.id minimum (take a.count b') (take (length src - a.used) (drop a.used src))) o r o' → Written (from_first minimum src) o r o'
+    pub first_accepted : (minimum : ℕ) → Written (from_second found.id minimum (take found.count b) (take (length src - found.used) (drop found.used src))) o r o' → Written (from_first minimum src) o r o'
     unfolding from_first
-    first_accepted minimum z w =
-        let g = got z in
-        let tail : take (length src - a.used) (drop a.used src) ≡ drop (count src + 2) src =
-        take_all (length src - a.used) (drop a.used src) (omega (arith, length-drop a.used src)) ∙ ap (λ n. drop n src) g.used in
-        let w' : Written (from_second (id_of (head src)) minimum (sequence src) (drop (count src + 2) src)) o r o' = rw (← g.id, ← g.prefix, ← tail) w in
-        rw (outcome_accepted (reading src) (from_second (id_of (head src)) minimum (sequence src) (drop (count src + 2) src)) (refused_line (reading src)) g.none) w'
-
--- ---- the minimum word
-pub words_refused : (ws o : List ℕ) (r : ℕ) (o' : List ℕ) → length ws ≡ 0 → Written (refused_line 8) o r o' → Written (from_words ws) o r o'
-unfolding from_words
-words_refused [] o r o' z w = w
-words_refused (m ∷ ws) o r o' z w = absurd (omega arith)
-
-pub words_accepted : (ws o : List ℕ) (r : ℕ) (o' : List ℕ) → (length ws ≡ 0 → ⊥) → Written (from_first (head ws) (take (length ws - 1) (drop 1 ws))) o r o' → Written (from_words ws) o r o'
-unfolding from_words
-words_accepted [] o r o' d w = absurd (d refl)
-words_accepted (m ∷ ws) o r o' d w =
-    let tail : take (length (m ∷ ws) - 1) ws ≡ ws = take_all (length (m ∷ ws) - 1) ws (omega arith) in
-    rw tail at w
+    first_accepted minimum w =
+        let tail : take (length src - found.used) (drop found.used src) ≡ drop (count src + 2) src =
+        take_all (length src - found.used) (drop found.used src) (omega (arith, length-drop found.used src)) ∙ ap (λ n. drop n src) h.used in
+        let w' : Written (from_second (id_of (head src)) minimum (sequence src) (drop (count src + 2) src)) o r o' = rw (← h.id, ← h.prefix, ← tail) w in
+        rw (outcome_accepted (reading src) (from_second (id_of (head src)) minimum (sequence src) (drop (count src + 2) src)) (refused_line (reading src)) h.none) w'

@@ -1,10 +1,11 @@
 -- The loop that writes the lines of the tiles of a tile buffer, one after another.
 -- Assumes nothing.
-use Prim.Native.Nat.{ℕ, ◌+◌, ◌*◌, ◌≤◌, ◌<◌}
+use Prim.Native.Nat.{ℕ, ◌+◌, ◌-◌, ◌*◌, ◌≤◌, ◌<◌}
 use native.Mathlib.Omega.{arith}
-use mathlib.Core.Path.{◌≡◌, refl, ◌∙◌, ap}
+use mathlib.Core.Path.{◌≡◌, refl, sym, ◌∙◌, ap}
 use mathlib.Core.List.{List, [], ◌∷◌, ◌++◌, append_assoc, append-nil}
-use lib.ListN.{length, get_or}
+use lib.ListN.{length, get_or, take, drop, length-append, length-drop, length-take, get_or-append}
+use lib.Seq.{get_or-drop, get_or-take, drop-drop, drop_at}
 use Rattle.tiling.specs.Each.{Each}
 use Rattle.tiling.specs.Listing.{Entry}
 use Rattle.tiling.specs.Demand.{tiles_in}
@@ -70,3 +71,51 @@ module _ (tiles : List ℕ) (count at : ℕ) (b₀ : List ℕ) (end : ℕ) (b : 
 
   pub printed_all : count ≤ i → Appended (45 * count) (tile_lines (tiles_in count tiles)) at b₀ end b
   printed_all h = let e : i ≡ count = omega (arith, r.within) in rw e at r.held
+
+-- ---- the same along the buffer's pieces of three words: what is left of the buffer is what stands behind the tiles that were taken, ys
+pub record Lining {A : Type 0} (tiles : List ℕ) (count at : ℕ) (b₀ : List ℕ) (end : ℕ) (b rest : List ℕ) (size : ℕ) (ys : List A) : Type 0 where
+  pub printed : Printed tiles count at b₀ end b (length ys)
+  pub left : rest ≡ drop (3 * length ys) (take (3 * count) tiles)
+  pub three : size ≡ 3
+
+pub lining_none : {A : Type 0} (tiles : List ℕ) (count at : ℕ) (b rest : List ℕ) (size : ℕ) → 3 * count ≤ length tiles → Each Starts (tiles_in count tiles) → at + 45 * count ≤ length b → rest ≡ take (3 * count) tiles → size ≡ 3 → Lining {A = A} tiles count at b at b rest size []
+lining_none tiles count at b rest size whole starts room e s = record { printed = printed_none tiles count at b whole starts room; left = e; three = s }
+
+module _ {A : Type 0} (tiles : List ℕ) (count at : ℕ) (b₀ : List ℕ) (end : ℕ) (b rest : List ℕ) (size : ℕ) (ys : List A) (r : Lining tiles count at b₀ end b rest size ys) where
+  remaining : length rest ≡ 3 * count - 3 * length ys
+  remaining = ap length r.left ∙ simp (length-drop, length-take) (omega (arith, r.printed.whole))
+
+  module _ (tile rest' : List ℕ) (cut : rest ≡ tile ++ rest') (whole : length tile ≡ size) where
+    more : length ys < count
+    more = omega (arith, remaining, ap length cut, length-append tile rest', whole, r.three)
+
+    word : (k : ℕ) → k < 3 → get_or tile k 0 ≡ get_or tiles (3 * length ys + k) 0
+    word k h =
+        sym (get_or-append tile rest' 0 k (omega (arith, whole, r.three)))
+        ∙ (ap (λ xs. get_or xs k 0) (sym cut ∙ r.left)
+        ∙ (get_or-drop (3 * length ys) (take (3 * count) tiles) k 0 ∙ get_or-take (3 * count) tiles (3 * length ys + k) 0 (omega (arith, more))))
+
+    first_word : get_or tile 0 0 ≡ get_or tiles (3 * length ys) 0
+    first_word = let e : 3 * length ys + 0 ≡ 3 * length ys = omega arith in rw e at (word 0 (omega arith))
+
+    pub lining_room : end + 45 ≤ length b
+    lining_room = line_room tiles count at b₀ end b (length ys) r.printed more
+
+    pub lining_first : get_or tile 0 0 < 2048
+    lining_first = rw first_word (first_start tiles count at b₀ end b (length ys) r.printed more)
+
+    pub lining_second : get_or tile 1 0 < 2048
+    lining_second = rw (word 1 (omega arith)) (second_start tiles count at b₀ end b (length ys) r.printed more)
+
+    pub lining_more : (end' : ℕ) (b' : List ℕ) → Appended 45 (tile_line (record { first = get_or tile 0 0; second = get_or tile 1 0; len = get_or tile 2 0 })) end b end' b' → length b' ≡ length b → (size' : ℕ) → size' ≡ size → (y : A) → Lining tiles count at b₀ end' b' rest' size' (ys ++ (y ∷ []))
+    lining_more end' b' a k size' s y =
+        let n : length (ys ++ (y ∷ [])) ≡ length ys + 1 = length-append ys (y ∷ []) in
+        let m : 3 * (length ys + 1) ≡ 3 * length ys + 3 = omega arith in
+        record {
+          printed = rw n (printed_more tiles count at b₀ end b (length ys) r.printed more end' b' (rw (first_word, word 1 (omega arith), word 2 (omega arith)) at a) k);
+          left = rw (n, m, ← drop-drop 3 (3 * length ys) (take (3 * count) tiles), ← r.left, cut) (sym (drop_at tile rest' 3 (whole ∙ r.three)));
+          three = s ∙ r.three;
+        }
+
+  pub lining_all : length rest < size → Appended (45 * count) (tile_lines (tiles_in count tiles)) at b₀ end b
+  lining_all h = printed_all tiles count at b₀ end b (length ys) r.printed (omega (arith, remaining, r.three, r.printed.within))

@@ -1,12 +1,13 @@
 -- The words of bytes, four by four, and the loop that stores them.
 -- Assumes nothing.
-use Prim.Native.Nat.{ℕ, zero, suc, ◌+◌, ◌*◌, ◌≤◌, ◌<◌}
+use Prim.Native.Nat.{ℕ, zero, suc, ◌+◌, ◌*◌, ◌/◌, ◌≤◌, ◌<◌, min}
 use native.Mathlib.Omega.{arith}
 use native.Mathlib.Numerals.{add-one}
-use mathlib.Core.Path.{◌≡◌, refl, sym, ◌∙◌, ap}
+use mathlib.Core.Path.{◌≡◌, refl, ◌∙◌, ap}
 use mathlib.Core.List.{List, [], ◌∷◌}
 use lib.ListN.{length, get_or, take, set, length-take}
-use lib.Seq.{take-suc, take_all, length-take-le}
+use lib.Seq.{take-suc, length-take-le}
+use Rattle.std.proofs.lemmas.List.{take_min}
 use Rattle.buffer.specs.Buffer.{onto}
 use Rattle.buffer.proofs.Buffer.{onto_more, length_onto}
 use Rattle.report.specs.Words.{word, words_of, word_at}
@@ -65,8 +66,8 @@ pub record Stored (bytes w₀ w : List ℕ) (i : ℕ) : Type 0 where
 pub stored_none : (bytes w : List ℕ) → Stored bytes w w 0
 stored_none bytes w = record { fits = omega arith; whole = omega arith; span = omega arith; held = refl; same = refl }
 
-pub stored_more : (bytes w₀ w : List ℕ) (i x : ℕ) → Stored bytes w₀ w i → i < length w → 4 * i + 3 < length bytes → x ≡ word_at bytes i → Stored bytes w₀ (set w i x) (i + 1)
-stored_more bytes w₀ w i x r room more e =
+pub stored_more : (bytes w₀ w : List ℕ) (count i x : ℕ) → Stored bytes w₀ w i → count ≡ min (length w₀) (length bytes / 4) → i < count → x ≡ word_at bytes i → Stored bytes w₀ (set w i x) (i + 1)
+stored_more bytes w₀ w count i x r c more e =
     let ws = words_of bytes in
     let less : i < length ws = omega (arith, words_most bytes) in
     let n : length (take i ws) ≡ i = length-take-le i ws (omega arith) in
@@ -81,20 +82,11 @@ stored_more bytes w₀ w i x r room more e =
       same = ap length held ∙ length_onto (take (i + 1) ws) w₀ (omega (arith, length-take (i + 1) ws, r.same));
     }
 
--- Either the buffer is full or the bytes are used up.
-module _ (bytes w₀ w : List ℕ) (i : ℕ) (r : Stored bytes w₀ w i) where
-  pub full_count : length w ≤ i → i ≡ length (take (length w₀) (words_of bytes))
-  full_count h = omega (arith, length-take (length w₀) (words_of bytes), r.whole, r.fits, r.same)
+-- In the end the buffer is full or the bytes are used up.
+pub stored_count : (bytes w₀ : List ℕ) (count : ℕ) → count ≡ min (length w₀) (length bytes / 4) → count ≡ length (take (length w₀) (words_of bytes))
+stored_count bytes w₀ count c = omega (arith, length-take (length w₀) (words_of bytes), words_least bytes, words_most bytes)
 
-  pub full_held : length w ≤ i → w ≡ onto (take (length w₀) (words_of bytes)) w₀
-  full_held h = let e : i ≡ length w₀ = omega (arith, r.fits, r.same) in rw e at r.held
-
-  pub used_count : length bytes ≤ 4 * i + 3 → i ≡ length (take (length w₀) (words_of bytes))
-  used_count h = omega (arith, length-take (length w₀) (words_of bytes), r.whole, r.fits, words_least bytes)
-
-  pub used_held : length bytes ≤ 4 * i + 3 → w ≡ onto (take (length w₀) (words_of bytes)) w₀
-  used_held h =
-      let n : length (words_of bytes) ≤ i = omega (arith, words_least bytes) in
-      let e : take i (words_of bytes) ≡ take (length w₀) (words_of bytes) =
-      take_all i (words_of bytes) n ∙ sym (take_all (length w₀) (words_of bytes) (omega (arith, r.fits))) in
-      rw e at r.held
+pub stored_all : (bytes w₀ w : List ℕ) (count i : ℕ) → Stored bytes w₀ w i → count ≡ min (length w₀) (length bytes / 4) → count ≤ i → w ≡ onto (take (length w₀) (words_of bytes)) w₀
+stored_all bytes w₀ w count i r c h =
+    let e : i ≡ min (length w₀) (length (words_of bytes)) = omega (arith, r.fits, r.whole, words_least bytes, words_most bytes) in
+    rw (e, take_min (length w₀) (words_of bytes)) at r.held

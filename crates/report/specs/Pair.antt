@@ -1,6 +1,6 @@
 -- What the pair program prints for any input: the bytes of its output as a function of the bytes of its input.
 use Rattle.std.specs.Prelude.{ℕ, ◌+◌, max, List, [], ◌∷◌, ◌++◌, ℤ, length, drop}
-use Rattle.symbol.specs.Refusal.{outcome}
+use Rattle.refusal.specs.Refusal.{outcome}
 use Rattle.record.specs.Format.{id_of}
 use Rattle.record.specs.Reading.{head, count, sequence, fault}
 use Rattle.tiling.specs.Comparing.{sequences, minimums, settings}

@@ -3,18 +3,22 @@
 
 ghost use Rattle.std.specs.Prelude.{◌≡◌, List, [], ◌∷◌, ℕ, ◌+◌, ◌*◌, ◌≤◌, ◌<◌, max, length, take};
 ghost use Rattle.io.specs.Counts.{IsPrefixLen};
+ghost use Rattle.refusal.specs.Number.{number};
 ghost use Rattle.buffer.specs.Buffer.{onto};
 ghost use Rattle.tiling.specs.Each.{Each};
 ghost use Rattle.tiling.specs.Demand.{tiles_in};
+ghost use Rattle.tiling.specs.Outcome.{compared_as};
 ghost use Rattle.lines.specs.Text.{decimal, phrase};
 ghost use Rattle.lines.specs.Appended.{Appended};
 ghost use Rattle.report.specs.Words.{words_of, word_at};
 ghost use Rattle.report.specs.Pair.{refused_line, shift_end, tile_line, tile_lines, opening, closing, pair_lines, from_pair, from_second, from_first, from_words, pair_report};
 ghost use Rattle.report.specs.Buffers.{input_bytes, report_bytes, ReadFrom};
-ghost use Rattle.report.specs.Written.{Written, Starts, Laid, Searched};
+ghost use Rattle.report.specs.Written.{Written, Read, Starts, Laid, Searched};
 
+use record::Found;
+use refusal::Refusal;
 use search::Settings;
-use tiling::Compared;
+use tiling::Summary;
 
 // As many words of the input as can matter.
 const INPUT_WORDS: usize = 1 + 2 * 2050;
@@ -25,23 +29,13 @@ pub const INPUT_BYTES: usize = 4 * INPUT_WORDS;
 
 pub const REPORT_BYTES: usize = 63 + 2048 * 45 + 61;
 
-// A byte as a number of a word's width.
-fn wide(byte: u8) -> u32
-    ensures { (result ≡ byte) × (result < 256) }
-{
-    byte as u32
-}
-
 // The word of number i: four bytes, lowest first.
 fn word_at(bytes: &[u8], i: usize) -> u32
     requires { 4 * i + 3 < length bytes.now }
     ensures { result ≡ word_at bytes.now i }
 {
     let at = 4 * i;
-    wide(bytes[at])
-        + 0x100 * wide(bytes[at + 1])
-        + 0x1_0000 * wide(bytes[at + 2])
-        + 0x100_0000 * wide(bytes[at + 3])
+    u32::from_le_bytes([bytes[at], bytes[at + 1], bytes[at + 2], bytes[at + 3]])
 }
 
 // Stores the words of bytes to the start of a buffer, as many as it holds, and answers how many.
@@ -49,20 +43,19 @@ fn store_words(bytes: &[u8], words: &mut [u32]) -> usize
     ensures value { result ≡ length (take (length words.old) (words_of bytes.now)) }
     ensures words_after { words.new ≡ onto (take (length words.old) (words_of bytes.now)) words.old }
 {
-    let mut i = 0;
-    while i < words.len() && 4 * i + 3 < bytes.len() {
+    let count = words.len().min(bytes.len() / 4);
+    for i in 0..count {
         words[i] = word_at(bytes, i);
-        i += 1;
     }
-    i
+    count
 }
 
 // Writes the line of a refusal.
-fn refused_line(out: &mut [u8], r: u32) -> usize
+fn refused_line(out: &mut [u8], refusal: Refusal) -> usize
     requires { report_bytes ≤ length out.old }
-    ensures { Written (refused_line r) out.old result out.new }
+    ensures { Written (refused_line (number refusal)) out.old result out.new }
 {
-    lines::line(out, 0, b"REFUSED", &[r])
+    lines::line(out, 0, b"REFUSED", &[u32::from(refusal)])
 }
 
 // Writes the lines before the tiles.
@@ -109,10 +102,8 @@ fn tile_lines(out: &mut [u8], at: usize, tiles: &[u32], count: usize) -> usize
     ensures { Appended (45 * count) (tile_lines (tiles_in count tiles.now)) at out.old result out.new }
 {
     let mut end = at;
-    let mut i = 0;
-    while i < count {
-        end = tile_line(out, end, tiles[3 * i], tiles[3 * i + 1], tiles[3 * i + 2]);
-        i += 1;
+    for tile in tiles[..3 * count].chunks_exact(3) {
+        end = tile_line(out, end, tile[0], tile[1], tile[2]);
     }
     end
 }
@@ -138,14 +129,14 @@ struct Heading {
 }
 
 // Writes the report of an accepted comparison, whose tiles are in the tile buffer.
-fn pair_lines(out: &mut [u8], of: Heading, answer: Compared, tiles: &[u32]) -> usize
+fn pair_lines(out: &mut [u8], of: Heading, sum: Summary, tiles: &[u32]) -> usize
     requires report_bytes_in_bounds { report_bytes ≤ length out.old }
-    requires laid { Laid of.n of.m answer tiles.now }
-    ensures { Written (pair_lines of.a of.b of.minimum of.n of.m (tiles_in answer.tiles tiles.now)) out.old result out.new }
+    requires laid { Laid of.n of.m (compared_as (Ok sum)) tiles.now }
+    ensures { Written (pair_lines of.a of.b of.minimum of.n of.m (tiles_in sum.tiles tiles.now)) out.old result out.new }
 {
-    let opened = opening_lines(out, of.a, of.b, of.minimum, answer.tiles);
-    let listed = tile_lines(out, opened, tiles, answer.tiles as usize);
-    closing_lines(out, listed, answer.covered, of.n, of.m, answer.score)
+    let opened = opening_lines(out, of.a, of.b, of.minimum, sum.tiles);
+    let listed = tile_lines(out, opened, tiles, sum.tiles as usize);
+    closing_lines(out, listed, sum.covered, of.n, of.m, sum.score)
 }
 
 // The first search length: 20, or the minimum if larger.
@@ -160,9 +151,14 @@ fn search_length(minimum: u32) -> u32
 
 // Compares two sequences by the search, with the program's settings: multiplier 257 and 256 buckets. The tiles go to the
 // start of the tile buffer. Workspace and tile buffer are as long as two sequences of 2,048 words can ask.
-fn search_pair(first: &[u32], second: &[u32], minimum: u32, tiles: &mut [u32]) -> Compared
+fn search_pair(
+    first: &[u32],
+    second: &[u32],
+    minimum: u32,
+    tiles: &mut [u32],
+) -> Result<Summary, Refusal>
     requires { (length first.now ≤ 2048) × (length second.now ≤ 2048) × (length tiles.old ≡ 6144) }
-    ensures { Searched first.now second.now minimum result tiles.new }
+    ensures { Searched first.now second.now minimum (compared_as result) tiles.new }
 {
     let mut workspace = [0u32; 16384];
     let settings = Settings {
@@ -179,20 +175,28 @@ fn compare(out: &mut [u8], a: u32, b: u32, minimum: u32, first: &[u32], second: 
     ensures { Written (from_pair a b minimum first.now second.now) out.old result out.new }
 {
     let mut tiles = [0u32; 6144];
-    let answer = search_pair(first, second, minimum, &mut tiles);
-    if answer.refusal != 0 {
-        return refused_line(out, answer.refusal);
+    match search_pair(first, second, minimum, &mut tiles) {
+        Err(refusal) => refused_line(out, refusal),
+        Ok(sum) => {
+            let heading = Heading {
+                a,
+                b,
+                minimum,
+                n: first.len() as u32,
+                m: second.len() as u32,
+            };
+            pair_lines(out, heading, sum, &tiles)
+        }
     }
-    let n = first.len() as u32;
-    let m = second.len() as u32;
-    let heading = Heading {
-        a,
-        b,
-        minimum,
-        n,
-        m,
-    };
-    pair_lines(out, heading, answer, &tiles)
+}
+
+// Reads a record into a buffer that has room for every sequence.
+#[tactic(auto, using(crate::proofs::Records::read_there))]
+fn read_record(src: &[u32], buffer: &mut [u32]) -> Result<Found, Refusal>
+    requires { length buffer.old ≡ 2048 }
+    ensures { Read src.now result buffer.new }
+{
+    record::read(src, buffer)
 }
 
 // Reads the second record and goes on to compare.
@@ -201,12 +205,13 @@ fn from_second(out: &mut [u8], a: u32, minimum: u32, first: &[u32], src: &[u32])
     ensures { Written (from_second a minimum first.now src.now) out.old result out.new }
 {
     let mut second = [0u32; 2048];
-    let got = record::read(src, &mut second);
-    if got.refusal != 0 {
-        return refused_line(out, got.refusal);
+    match read_record(src, &mut second) {
+        Err(refusal) => refused_line(out, refusal),
+        Ok(found) => {
+            let count = found.count as usize;
+            compare(out, a, found.id, minimum, first, &second[..count])
+        }
     }
-    let count = got.count as usize;
-    compare(out, a, got.id, minimum, first, &second[..count])
 }
 
 // Reads the first record and goes on to the second.
@@ -215,24 +220,26 @@ fn from_first(out: &mut [u8], minimum: u32, src: &[u32]) -> usize
     ensures { Written (from_first minimum src.now) out.old result out.new }
 {
     let mut first = [0u32; 2048];
-    let got = record::read(src, &mut first);
-    if got.refusal != 0 {
-        return refused_line(out, got.refusal);
+    match read_record(src, &mut first) {
+        Err(refusal) => refused_line(out, refusal),
+        Ok(found) => {
+            let count = found.count as usize;
+            let used = found.used as usize;
+            from_second(out, found.id, minimum, &first[..count], &src[used..])
+        }
     }
-    let count = got.count as usize;
-    let used = got.used as usize;
-    from_second(out, got.id, minimum, &first[..count], &src[used..])
 }
 
 // Takes the minimum word and goes on to the records.
+#[tactic(auto, unfolding(crate::specs::Pair::from_words))]
 fn from_words(out: &mut [u8], words: &[u32]) -> usize
     requires { report_bytes ≤ length out.old }
     ensures { Written (from_words words.now) out.old result out.new }
 {
-    if words.len() == 0 {
-        return refused_line(out, 8);
+    match words.split_first() {
+        None => refused_line(out, Refusal::CutOff),
+        Some((minimum, src)) => from_first(out, *minimum, src),
     }
-    from_first(out, words[0], &words[1..])
 }
 
 // Writes the report of the input that is in the first got bytes of its buffer to the start of the output, and answers how

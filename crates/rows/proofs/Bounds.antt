@@ -9,26 +9,23 @@ use mathlib.Core.Bool.{Bool, true, false, ◌&&◌}
 use mathlib.Core.List.{List}
 use borrow.Author.Tests.{ltb-true, lt-ltb, le-ltb, eq-eqb, ne_eqb}
 use lib.Dec.{ltb, eqb}
-use lib.ListN.{length, drop, get_or, set, length-drop}
+use lib.ListN.{drop, get_or, set, length-drop}
 use Rattle.symbol.specs.Word.{equal_calls}
 use Rattle.symbol.proofs.Word.{and_left}
 use Rattle.tiling.specs.Tiling.{State, run_at}
 use Rattle.tiling.proofs.Run.{run_within}
 use Rattle.tile.specs.declared.TextAt.{TextAt}
-use Rattle.chain.specs.Stretches.{StretchBefore}
-use Rattle.bounds.specs.Workspace.{Space, state, bounds_from}
+use Rattle.bounds.specs.Workspace.{Space, state}
 use Rattle.sweep.specs.Row.{bound_by, free_words, before}
-use Rattle.sweep.specs.Progress.{UpperFrom, RowBound, NextRows}
+use Rattle.sweep.specs.Progress.{UpperFrom, RowBound}
 use Rattle.sweep.specs.declared.Found.{Found}
 use Rattle.bounds.specs.declared.Job.{Job}
 use Rattle.bounds.proofs.Workspace.{pattern_length}
 use Rattle.sweep.proofs.Told.{Telling, telling_none, telling_both, free_tells, bound_tells, bound_told, before_some}
-use Rattle.sweep.proofs.Bounds.{Filling, filling_none, filling_more, filling_all, Stretching, stretching_none, stretching_next, stretching_within, stretching_more, stretching_less, stretching_all}
-use Rattle.index.specs.Indexed.{Ranges, Indexed, Filtered, pattern_hash, text_hash, slot, place}
+use Rattle.index.specs.Indexed.{Filtered, pattern_hash, text_hash, slot, place}
 use Rattle.index.specs.Built.{when}
-use Rattle.index.specs.declared.Pass.{Pass}
-use Rattle.index.proofs.Kept.{Kept, indexed_kept, filtered_kept, kept_set}
-use Rattle.rows.specs.Reached.{Reached, Looked, FilledStretch, FilledRows, told_by, goes_on}
+use Rattle.index.specs.declared.pass.Pass.{Pass}
+use Rattle.rows.specs.Reached.{Reached, Looked, told_by, goes_on}
 
 -- ---- what was remembered
 pub remembered_not : (last : List ℕ) (len cap b p : ℕ) → cap ≤ len → last ≡ when (ltb len cap) (set last b p) last
@@ -69,10 +66,10 @@ told_tells x ws last p from cap r space upper e =
     go q false = telling_none x.job ws p cap
 
 -- ---- a row that is looked at for a run of cap words
-module _ (x : Pass) (ws : List ℕ) (p cap : ℕ) (space : Space x.job ws) (ranges : Ranges x) where
+module _ (x : Pass) (ws : List ℕ) (p cap : ℕ) (space : Space x.job ws) where
   pub looked_told : (last : List ℕ) (free r : ℕ) (a : TextAt) → p < x.job.n → x.s ≤ cap → UpperFrom x.job ws 0 → free ≡ free_words x.job ws p cap → r ≡ told_by x ws last p 0 free → r < cap → Looked (state x.job ws) p cap (record { t = a; len = r })
   looked_told last free r a row long upper k e h =
-      let t = telling_both x.job ws p cap free r (free_tells x.job ws p cap free space row (omega (arith, ranges.one)) k) (told_tells x ws last p 0 free r space upper e) in
+      let t = telling_both x.job ws p cap free r (free_tells x.job ws p cap free space row (omega (arith, x.one)) k) (told_tells x ws last p 0 free r space upper e) in
       record { small = omega (arith, t.inside h, space.short_pattern); most = t.most; long = λ l. absurd (omega arith); first = λ l. absurd (omega arith) }
 
   pub looked_found : (f : Found) → x.s ≤ cap → Reached (drop p (state x.job ws).pattern) (state x.job ws).text (x.s - 1) cap f → Looked (state x.job ws) p cap f
@@ -80,14 +77,14 @@ module _ (x : Pass) (ws : List ℕ) (p cap : ℕ) (space : Space x.job ws) (rang
       record {
         small = small (dec_lt (x.s - 1) f.len);
         most = r.most;
-        long = λ l. r.long (omega (arith, ranges.one));
-        first = λ l. r.first (omega (arith, ranges.one));
+        long = λ l. r.long (omega (arith, x.one));
+        first = λ l. r.first (omega (arith, x.one));
       }
     where
       small : Dec (x.s - 1 < f.len) → f.len ≤ 2048
       small (yes l) =
           omega (arith, r.long l, run_within (drop p (state x.job ws).pattern) (drop f.t.0 (state x.job ws).text), length-drop p (state x.job ws).pattern, pattern_length x.job ws space, space.short_pattern)
-      small (no l) = omega (arith, l, ranges.most)
+      small (no l) = omega (arith, l, x.most)
 
 -- ---- a run that goes on
 module _ (j : Job) (ws : List ℕ) (p t u : ℕ) (e : u ≡ before t j.m) where
@@ -113,8 +110,8 @@ module _ (x : Pass) (ws : List ℕ) where
   abbrev st : State
   st = state x.job ws
 
-  pub bound_unknown : (p len : ℕ) → RowBound x.job st (p + 1) len → (filter : List ℕ) (own r : ℕ) → Ranges x → Filtered x ws filter → x.s ≤ len + 1 → own ≡ pattern_hash x.job ws p → r ≡ get_or filter (slot own) 0 → (r ≡ 2 → ⊥) → RowBound x.job st p (x.s - 1)
-  bound_unknown p len c filter own r ranges known h e w d = record { most = λ u. go u (dec_le x.s (run_at st p u)); within = omega (arith, c.within, ranges.one) }
+  pub bound_unknown : (p len : ℕ) → RowBound x.job st (p + 1) len → (filter : List ℕ) (own r : ℕ) → Filtered x ws filter → x.s ≤ len + 1 → own ≡ pattern_hash x.job ws p → r ≡ get_or filter (slot own) 0 → (r ≡ 2 → ⊥) → RowBound x.job st p (x.s - 1)
+  bound_unknown p len c filter own r known h e w d = record { most = λ u. go u (dec_le x.s (run_at st p u)); within = omega (arith, c.within, x.one) }
     where
       go : (u : ℕ) → Dec (x.s ≤ run_at st p u) → run_at st p u ≤ x.s - 1
       go u (yes l) = absurd (d (w ∙ (rw e (known.known p u l))))
@@ -124,8 +121,8 @@ module _ (x : Pass) (ws : List ℕ) where
     pub bound_known : (last : List ℕ) (r : ℕ) → UpperFrom x.job ws (p + 1) → r ≡ told_by x ws last p (p + 1) cap → RowBound x.job st p r
     bound_known last r upper e = bound_told x.job ws p cap r c (told_tells x ws last p (p + 1) cap r space upper e)
 
-    pub bound_found : (g : Found) → Ranges x → x.s ≤ cap → Reached (drop p st.pattern) st.text (x.s - 1) cap g → RowBound x.job st p g.len
-    bound_found g ranges h r = record { most = λ u. most u (dec_lt g.len cap); within = within (dec_lt (x.s - 1) g.len) }
+    pub bound_found : (g : Found) → x.s ≤ cap → Reached (drop p st.pattern) st.text (x.s - 1) cap g → RowBound x.job st p g.len
+    bound_found g h r = record { most = λ u. most u (dec_lt g.len cap); within = within (dec_lt (x.s - 1) g.len) }
       where
         most : (u : ℕ) → Dec (g.len < cap) → run_at st p u ≤ g.len
         most u (yes l) = r.most l u
@@ -135,63 +132,3 @@ module _ (x : Pass) (ws : List ℕ) where
         within (yes l) =
             omega (arith, r.long l, run_within (drop p st.pattern) (drop g.t.0 st.text), length-drop p st.pattern, pattern_length x.job ws space, c.within)
         within (no l) = omega (arith, c.within, l, r.least)
-
--- ---- the rows of a stretch
-pub record FillingRows (x : Pass) (heads filter ws₀ ws : List ℕ) (from to p after : ℕ) : Type 0 where
-  pub filling : Filling x.job ws₀ ws from p after
-  pub below : p ≤ to
-  pub ranges : Ranges x
-  pub indexed : Indexed x ws heads
-  pub filtered : Filtered x ws filter
-
-pub rows_none : (x : Pass) (heads filter ws : List ℕ) (from to : ℕ) → Space x.job ws → Ranges x → Indexed x ws heads → Filtered x ws filter → NextRows x.job ws from to → FillingRows x heads filter ws ws from to to 0
-rows_none x heads filter ws from to space r i k next =
-    record { filling = filling_none x.job ws from to space next; below = omega arith; ranges = r; indexed = i; filtered = k }
-
-module _ (x : Pass) (heads filter ws₀ ws : List ℕ) (from to p after : ℕ) (i : FillingRows x heads filter ws₀ ws from to p after) where
-  pub rows_more : NextRows x.job ws₀ from to → from < p → (len : ℕ) → RowBound x.job (state x.job ws) (p - 1) len → (ws' : List ℕ) → ws' ≡ set ws (bounds_from x.job + (p - 1)) len → FillingRows x heads filter ws₀ ws' from to (p - 1) len
-  rows_more next above len c ws' e =
-      let kept : Kept x.job ws ws' = rw e (kept_set x.job ws (p - 1) len (omega (arith, i.filling.within))) in
-      record {
-        filling = filling_more x.job ws₀ ws from p after i.filling to next above i.below len c ws' e;
-        below = omega (arith, i.below);
-        ranges = i.ranges;
-        indexed = indexed_kept x ws ws' heads kept i.indexed;
-        filtered = filtered_kept x ws ws' filter i.ranges kept i.filtered;
-      }
-
-  pub rows_all : p ≤ from → FilledStretch x heads filter ws₀ ws from
-  rows_all z = record { filled = filling_all x.job ws₀ ws from p after i.filling z; indexed = i.indexed; filtered = i.filtered }
-
--- ---- the stretches
-pub record StretchingRows (x : Pass) (heads filter ws₀ ws : List ℕ) (from to : ℕ) : Type 0 where
-  pub stretching : Stretching x.job ws₀ ws from to
-  pub ranges : Ranges x
-  pub indexed : Indexed x ws heads
-  pub filtered : Filtered x ws filter
-
-pub all_none : (x : Pass) (heads filter ws : List ℕ) (end from to : ℕ) → Space x.job ws → Ranges x → Indexed x ws heads → Filtered x ws filter → end ≡ x.job.n → StretchBefore (state x.job ws).pattern end from to → StretchingRows x heads filter ws ws from to
-all_none x heads filter ws end from to space r i k e b =
-    record { stretching = stretching_none x.job ws end from to space e b; ranges = r; indexed = i; filtered = k }
-
-module _ (x : Pass) (heads filter ws₀ ws : List ℕ) (from to : ℕ) (i : StretchingRows x heads filter ws₀ ws from to) where
-  pub all_next : 0 < to → NextRows x.job ws from to
-  all_next = stretching_next x.job ws₀ ws from to i.stretching
-
-  pub all_within : from ≤ x.job.n
-  all_within = stretching_within x.job ws₀ ws from to i.stretching
-
-  pub all_more : 0 < to → (ws' : List ℕ) → length ws' ≡ length ws → FilledStretch x heads filter ws ws' from → (from' to' : ℕ) → StretchBefore (state x.job ws').pattern from from' to' → StretchingRows x heads filter ws₀ ws' from' to'
-  all_more z ws' room f from' to' r =
-      record {
-        stretching = stretching_more x.job ws₀ ws from to i.stretching z ws' room f.filled from' to' r;
-        ranges = i.ranges;
-        indexed = f.indexed;
-        filtered = f.filtered;
-      }
-
-  pub all_less : 0 < to → (from' to' : ℕ) (xs : List ℕ) → StretchBefore xs from from' to' → to' < to
-  all_less = stretching_less x.job ws₀ ws from to i.stretching
-
-  pub all_rows : to ≤ 0 → FilledRows x heads ws₀ ws
-  all_rows z = record { filled = stretching_all x.job ws₀ ws from to i.stretching z; indexed = i.indexed }

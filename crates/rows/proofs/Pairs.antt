@@ -30,7 +30,7 @@ use Rattle.bounds.specs.declared.Job.{Job}
 use Rattle.sweep.proofs.Bounds.{run_further}
 use Rattle.bounds.proofs.Workspace.{pattern_length, text_length}
 use Rattle.index.specs.Indexed.{pattern_hash, text_hash}
-use Rattle.index.specs.declared.Pass.{Pass}
+use Rattle.index.specs.declared.pass.Pass.{Pass}
 use Rattle.rows.specs.Reached.{Alike, may_be_longer, after_run, visited}
 use Rattle.rows.specs.declared.Walk.{Walk}
 

@@ -25,8 +25,8 @@ use Rattle.sweep.specs.declared.Found.{Found}
 use Rattle.sweep.proofs.Row.{better_new, better_old}
 use Rattle.sweep.proofs.Passed.{passed_shorter}
 use Rattle.bounds.proofs.Workspace.{pattern_length, text_length}
-use Rattle.index.specs.Indexed.{Ranges, Indexed, pattern_hash, link}
-use Rattle.index.specs.declared.Pass.{Pass}
+use Rattle.index.specs.Indexed.{Indexed, pattern_hash, link}
+use Rattle.index.specs.declared.pass.Pass.{Pass}
 use Rattle.rows.specs.Reached.{Reached, Within, Begun, may_be_longer, after_run, visited}
 use Rattle.rows.specs.declared.Walk.{Walk}
 use Rattle.rows.proofs.Pairs.{not_longer}
@@ -35,7 +35,6 @@ use Rattle.rows.proofs.Pairs.{not_longer}
 pub record Walked (x : Pass) (ws heads : List ℕ) (p t : ℕ) (w : Walk) : Type 0 where
   pub space : Space x.job ws
   pub row : p < x.job.n
-  pub ranges : Ranges x
   pub index : Indexed x ws heads
   pub least : x.s - 1 ≤ w.found.len
   pub order : w.ended ≤ w.found.len
@@ -51,12 +50,11 @@ module _ (x : Pass) (ws heads : List ℕ) (p : ℕ) where
   abbrev ps : List ℕ
   ps = drop p (state x.job ws).pattern
 
-  pub walk_none : (own b t : ℕ) (w : Walk) → Space x.job ws → Ranges x → Indexed x ws heads → p < x.job.n → Begun x ws p w → own ≡ pattern_hash x.job ws p → b ≡ bucket x.buckets own → b < 1024 → t ≡ get_or heads b 0 → Walked x ws heads p t w
-  walk_none own b t w space ranges index inside k e f small h =
+  pub walk_none : (own b t : ℕ) (w : Walk) → Space x.job ws → Indexed x ws heads → p < x.job.n → Begun x ws p w → own ≡ pattern_hash x.job ws p → b ≡ bucket x.buckets own → b < 1024 → t ≡ get_or heads b 0 → Walked x ws heads p t w
+  walk_none own b t w space index inside k e f small h =
       record {
         space = space;
         row = inside;
-        ranges = ranges;
         index = index;
         least = omega (arith, k.floor);
         order = omega (arith, k.ended);
@@ -108,7 +106,6 @@ module _ (x : Pass) (ws heads : List ℕ) (p : ℕ) where
         record {
           space = i.space;
           row = i.row;
-          ranges = i.ranges;
           index = i.index;
           least = i.least;
           order = i.order;
@@ -149,7 +146,6 @@ module _ (x : Pass) (ws heads : List ℕ) (p : ℕ) where
               (record {
                 space = i.space;
                 row = i.row;
-                ranges = i.ranges;
                 index = i.index;
                 least = omega (arith, i.least);
                 order = omega arith;
@@ -166,7 +162,6 @@ module _ (x : Pass) (ws heads : List ℕ) (p : ℕ) where
               (record {
                 space = i.space;
                 row = i.row;
-                ranges = i.ranges;
                 index = i.index;
                 least = i.least;
                 order = omega arith;

@@ -1,1 +1,2 @@
 pub mod Reached
+pub mod Serving

@@ -7,11 +7,10 @@ use Rattle.tile.specs.declared.TextAt.{TextAt}
 use Rattle.measure.specs.Block.{counted}
 use Rattle.bounds.specs.Workspace.{state}
 use Rattle.sweep.specs.Row.{better, bound_by, before, passed_over}
-use Rattle.sweep.specs.Progress.{FilledFrom, Filled}
 use Rattle.sweep.specs.declared.Found.{Found}
 use Rattle.bounds.specs.declared.Job.{Job}
-use Rattle.index.specs.Indexed.{Indexed, Filtered, pattern_hash, text_hash, place}
-use Rattle.index.specs.declared.Pass.{Pass}
+use Rattle.index.specs.Indexed.{pattern_hash, text_hash, place}
+use Rattle.index.specs.declared.pass.Pass.{Pass}
 use Rattle.rows.specs.declared.Walk.{Walk}
 
 -- Where a run of s words or more begins, the two windows have the same hash.
@@ -76,14 +75,3 @@ told_by x ws last p from cap =
 unfoldable pub goes_on : Job → List ℕ → ℕ → ℕ → Bool
 goes_on j ws p t =
     ltb (before t j.m) j.m && (eqb (text_hash j ws (before t j.m)) (pattern_hash j ws p) && equal_calls (get_or ws p 0) (get_or ws (j.n + before t j.m) 0))
-
--- The rows from `from` on have their bounds, and index and filter are as they were.
-pub record FilledStretch (x : Pass) (heads filter ws ws' : List ℕ) (from : ℕ) : Type 0 where
-  pub filled : FilledFrom x.job ws ws' from
-  pub indexed : Indexed x ws' heads
-  pub filtered : Filtered x ws' filter
-
--- Every row has its bound, and the index is as it was.
-pub record FilledRows (x : Pass) (heads ws ws' : List ℕ) : Type 0 where
-  pub filled : Filled x.job ws ws'
-  pub indexed : Indexed x ws' heads

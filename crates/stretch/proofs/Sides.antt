@@ -1,17 +1,24 @@
 -- Counting the free words on either side of a position, from there outwards: as far as they go, or as far as was asked.
 -- Assumes nothing.
 use Prim.Native.Nat.{ℕ, zero, suc, ◌+◌, ◌-◌, ◌^◌, ◌≤◌, ◌<◌, min}
-use native.Mathlib.Decide.{dec_le}
-use native.Mathlib.Nat.{not-suc-le-zero}
+use native.Mathlib.Decide.{dec_le, dec_lt}
 use native.Mathlib.Omega.{arith}
 use mathlib.Core.Path.{◌≡◌, refl, sym, ◌∙◌, ap}
+use mathlib.Core.Bool.{Bool, true, not}
 use mathlib.Core.List.{List, [], ◌∷◌}
-use borrow.Author.Tests.{le-leb, lt-leb}
+use borrow.Author.Tests.{le-leb, lt-leb, eqb-true, ne_eqb, not-false}
+use lib.Dec.{eqb}
 use lib.ListN.{length, take, drop, get_or, length-drop, get_or-eq_default}
 use lib.Seq.{get_or-drop, take_all}
+use Rattle.std.specs.Prelude.{reverse}
+use Rattle.std.specs.List.{prefix_len, suffix_len, take_while}
+use Rattle.std.proofs.lemmas.List.{length-reverse, get_or-reverse}
+use Rattle.std.proofs.lemmas.List.Folds.{length-prefix_len}
+use Rattle.std.proofs.lemmas.List.Sums.{prefix_len_passes, prefix_len_stops, suffix_len-le-length}
+use Rattle.buffer.proofs.Buffer.{tail_is}
 use Rattle.tiling.specs.Run.{mark}
 use Rattle.tiling.specs.Stretch.{fillable, free_first}
-use Rattle.tiling.proofs.Stretch.{free_most, free_least}
+use Rattle.tiling.proofs.Stretch.{free_most}
 use Rattle.stretch.specs.Sides.{free_last, if_short, OnFree}
 use Rattle.stretch.proofs.Fillable.{tile_takes}
 
@@ -60,41 +67,62 @@ last_cut ws n h z =
     let m : length (drop k ws) ≡ suc n = omega (arith, length-drop k ws) in
     omega (arith, last_from k 0 ws, marked_first (free_last 0 (take k ws)) (drop k ws) n m (get_or-drop k ws 0 0 ∙ rw e z))
 
--- ---- the two loops: of n words so many were seen, and all of them are free
-pub record Seen (word : ℕ → ℕ) (n i : ℕ) : Type 0 where
-  pub within : i ≤ n
-  pub free : (k : ℕ) → k < i → word k ≡ 0 → ⊥
+-- ---- the two counts: of the first n words, and of the last n, so many pass the test one after another
+abbrev pub free_word : ℕ → Bool
+free_word w = not (eqb w 0)
 
-pub seen_none : (word : ℕ → ℕ) (n : ℕ) → Seen word n 0
-seen_none word n = record { within = omega arith; free = λ k h. absurd (not-suc-le-zero h) }
+first_front : (n : ℕ) (ws : List ℕ) → prefix_len free_word (take n ws) ≡ min n (free_first ws)
+unfolding free_first
+first_front zero ws = omega arith
+first_front (suc n) [] = omega arith
+first_front (suc n) (zero ∷ ws) = omega arith
+first_front (suc n) (suc w ∷ ws) = rw (ne_eqb (suc w) 0 (λ e. absurd (omega arith)), first_front n ws) (omega arith)
 
-pub seen_more : (word : ℕ → ℕ) (n i : ℕ) → Seen word n i → i < n → (word i ≡ 0 → ⊥) → Seen word n (i + 1)
-seen_more word n i s h d = record { within = omega arith; free = λ k l. go k l (dec_le i k) }
-  where
-    go : (k : ℕ) → k < i + 1 → Dec (i ≤ k) → word k ≡ 0 → ⊥
-    go k l (yes u) = let e : k ≡ i = omega arith in rw e d
-    go k l (no u) = s.free k (omega (arith, u))
+module _ (n : ℕ) (ws : List ℕ) (h : n ≤ length ws) where
+  abbrev part : List ℕ
+  part = drop (length ws - n) ws
 
--- Such a loop ends where all were seen, or at a word that is marked.
-module _ (ws : List ℕ) (most n i : ℕ) (e : n ≡ min most (length ws)) (s : Seen (λ k. get_or ws k 0) n i) where
-  at_least : i ≤ free_first ws
-  at_least = free_least ws i s.free
+  long : length part ≡ n
+  long = omega (arith, length-drop (length ws - n) ws)
 
-  pub first_all : n ≤ i → i ≡ min most (free_first ws)
-  first_all h = omega (arith, e, at_least, s.within, free_most ws (length ws) (get_or-eq_default ws 0 {n = length ws} (omega arith)))
+  from_end : (i : ℕ) → i < n → get_or (reverse part) i 0 ≡ get_or ws (length ws - 1 - i) 0
+  from_end i l =
+      let e : length ws - n + (length part - 1 - i) ≡ length ws - 1 - i = omega (arith, long) in
+      get_or-reverse part i 0 (omega (arith, long)) ∙ (get_or-drop (length ws - n) ws (length part - 1 - i) 0 ∙ rw e refl)
 
-  pub first_marked : i < n → get_or ws i 0 ≡ 0 → i ≡ min most (free_first ws)
-  first_marked h z = omega (arith, e, at_least, free_most ws i z)
+  last_front : suffix_len free_word part ≡ min n (free_last 0 ws)
+  last_front = go (dec_lt m n)
+    where
+      m : ℕ
+      m = suffix_len free_word part
 
-module _ (ws : List ℕ) (most n i : ℕ) (e : n ≡ min most (length ws)) (s : Seen (λ k. get_or ws (length ws - 1 - k) 0) n i) where
-  at_end : i ≤ free_last 0 ws
-  at_end = last_enough ws i (omega (arith, e, s.within)) s.free
+      few : m ≤ n
+      few = omega (arith, suffix_len-le-length free_word part, long)
 
-  pub last_all : n ≤ i → i ≡ min most (free_last 0 ws)
-  last_all h = omega (arith, e, at_end, s.within, last_most 0 ws)
+      enough : m ≤ free_last 0 ws
+      enough =
+          last_enough ws m (omega (arith, few))
+          (λ i l z. let e : get_or (reverse part) i 0 ≡ 0 = from_end i (omega (arith, few)) ∙ z in
+          let t : free_word 0 ≡ true = rw e at (prefix_len_passes free_word (reverse part) i 0 l) in
+          cc)
 
-  pub last_marked : i < n → get_or ws (length ws - 1 - i) 0 ≡ 0 → i ≡ min most (free_last 0 ws)
-  last_marked h z = omega (arith, e, at_end, last_cut ws i (omega (arith, e)) z)
+      go : Dec (m < n) → m ≡ min n (free_last 0 ws)
+      go (no d) = omega (arith, d, few, enough)
+      go (yes d) =
+          let t = prefix_len_stops free_word (reverse part) 0 (omega (arith, d, length-reverse part, long)) in
+          omega (arith, enough, last_cut ws m (omega (arith, d)) (sym (from_end m d) ∙ eqb-true (get_or (reverse part) m 0) 0 (not-false _ t)))
+
+-- So counts the code, of a part of the words.
+pub first_count : (ws : List ℕ) (most n r : ℕ) → n ≡ min most (length ws) → r ≡ length (take_while free_word (take n ws)) → r ≡ min most (free_first ws)
+first_count ws most n r e k =
+    let f : r ≡ min n (free_first ws) = k ∙ (length-prefix_len free_word (take n ws) ∙ first_front n ws) in
+    omega (arith, e, f, free_most ws (length ws) (get_or-eq_default ws 0 {n = length ws} (omega arith)))
+
+pub last_count : (ws : List ℕ) (most n r : ℕ) → n ≡ min most (length ws) → r ≡ length (take_while free_word (reverse (take (length ws - (length ws - n)) (drop (length ws - n) ws)))) → r ≡ min most (free_last 0 ws)
+last_count ws most n r e k =
+    let f : r ≡ min n (free_last 0 ws) =
+    k ∙ (rw (tail_is (length ws - n) ws) (length-prefix_len free_word (reverse (part n ws (omega (arith, e)))) ∙ last_front n ws (omega (arith, e)))) in
+    omega (arith, e, f, last_most 0 ws)
 
 -- ---- both sides of a tile
 pub counts_not : (minimum len : ℕ) → minimum ≤ len → 0 ≡ if_short minimum len

@@ -11,25 +11,20 @@ ghost use Rattle.stretch.specs.Sides.{free_last, if_short, OnFree};
 fn free_first(words: &[u32], most: usize) -> usize
     ensures { result ≡ min most (free_first words.now) }
 {
-    let n = buffer::lesser(most, words.len());
-    let mut i = 0;
-    while i < n && words[i] != 0 {
-        i += 1;
-    }
-    i
+    let n = most.min(words.len());
+    words[..n].iter().take_while(|w| **w != 0).count()
 }
 
 // How many it ends with, `most` at the most.
 fn free_last(words: &[u32], most: usize) -> usize
     ensures { result ≡ min most (free_last 0 words.now) }
 {
-    let n = buffer::lesser(most, words.len());
-    let last = words.len();
-    let mut i = 0;
-    while i < n && words[last - 1 - i] != 0 {
-        i += 1;
-    }
-    i
+    let n = words.len();
+    words[n - most.min(n)..]
+        .iter()
+        .rev()
+        .take_while(|w| **w != 0)
+        .count()
 }
 
 // The words of a stretch that is too short for a tile; 0 where it is not.

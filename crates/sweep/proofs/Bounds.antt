@@ -222,9 +222,6 @@ module _ (j : Job) (ws₀ ws : List ℕ) (from to : ℕ) (i : Stretching j ws₀
         last = r;
       }
 
-  pub stretching_less : 0 < to → (from' to' : ℕ) (xs : List ℕ) → StretchBefore xs from from' to' → to' < to
-  stretching_less z from' to' xs r = omega (arith, r.within, i.last.some z)
-
   pub stretching_all : to ≤ 0 → Filled j ws₀ ws
   stretching_all z =
       record {

@@ -199,9 +199,6 @@ module _ (j : Job) (level p : ℕ) (ws b : List ℕ) (k : Totals) (f : Found) (s
     text_free : (i : ℕ) → i < level → Free (state j ws).text (f.t.0 + i)
     text_free i h = not_zero_right _ _ (next_lies.matching i h)
 
-    pub some_words : 1 ≤ level
-    some_words = omega (arith, s.long, s.fits.least)
-
     -- And its numbers fit their types.
     few_covered : k.covered + level ≤ 2048
     few_covered = omega (arith, free_after, s.fits.space.short_pattern)

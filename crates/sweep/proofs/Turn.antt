@@ -80,10 +80,6 @@ few_covered j ws b k f = omega (arith, f.free, f.space.short_pattern)
 pub few_fillable : (j : Job) (ws b : List ℕ) (k : Totals) → Fits j ws b k → k.fillable ≤ 2048
 few_fillable j ws b k f = omega (arith, f.left, fillable_most j.minimum (state j ws).pattern, pattern_length j ws f.space, f.space.short_pattern)
 
--- The test as the code asks it.
-pub going_on : (k : Totals) (r : Bool) → r ≡ at_goal k → r ≡ false → at_goal k ≡ false
-going_on k r e f = sym e ∙ f
-
 -- A comparison that is at its goal is not on its way to it.
 pub at_goal_no : (r g : Bool) → r ≡ g → r ≡ true → g ≡ false → ⊥
 at_goal_no r g e t f = let c : true ≡ false = sym t ∙ (e ∙ f) in let z : ◌≡◌ {A = ℕ} 0 1 = cc in omega arith
@@ -111,18 +107,7 @@ pub record Swept (j : Job) (level : ℕ) (ws₀ b₀ : List ℕ) (k₀ : Totals)
   pub same_room : length ws ≡ length ws₀
   pub same_tiles : length b ≡ length b₀
 
-pub swept_none : (j : Job) (level : ℕ) (ws b : List ℕ) (k : Totals) (bs : List ℕ) (p : ℕ) → Sweeping j level 0 ws b k → Covering j ws bs → First (λ q. bound j ws q ≡ level) 0 j.n p → Swept j level ws b k ws b k bs p
-swept_none j level ws b k bs p s c y =
-    record { sweeping = skip j level 0 p ws b k s y; onward = onward_none j ws b k; covering = c; full = y.stops; same_room = refl; same_tiles = refl }
-
 module _ (j : Job) (level : ℕ) (ws₀ b₀ : List ℕ) (k₀ : Totals) (ws b : List ℕ) (k : Totals) (bs : List ℕ) (p : ℕ) (s : Swept j level ws₀ b₀ k₀ ws b k bs p) where
-  -- The level is the bound of the row that is visited.
-  pub swept_row : p < j.n → Sweeping j (bound j ws p) p ws b k
-  swept_row h = rw (s.full h) s.sweeping
-
-  pub swept_long : (n : ℕ) → n ≤ level → p < j.n → n ≤ bound j ws p
-  swept_long n l h = omega (arith, s.full h)
-
   pub swept_more : p < j.n → (ws' b' : List ℕ) (k' : Totals) (bs' : List ℕ) (p' : ℕ) → Sweeping j (bound j ws p) (p + 1) ws' b' k' → Onward j ws b k ws' b' k' → Covering j ws' bs' → length ws' ≡ length ws → length b' ≡ length b → First (λ q. bound j ws' q ≡ level) (p + 1) j.n p' → Swept j level ws₀ b₀ k₀ ws' b' k' bs' p'
   swept_more h ws' b' k' bs' p' w o c v u y =
       record {
@@ -134,13 +119,6 @@ module _ (j : Job) (level : ℕ) (ws₀ b₀ : List ℕ) (k₀ : Totals) (ws b :
         same_tiles = u ∙ s.same_tiles;
       }
 
-  -- It ends where every row was passed, or at the goal.
-  pub swept_all : j.n ≤ p → Over j level ws b k
-  swept_all h = record { fits = s.sweeping.fits; upper = s.sweeping.bounded.upper; below = λ g q l. s.sweeping.bounded.passed q (omega arith) }
-
-  pub swept_goal : (r : Bool) → r ≡ at_goal k → r ≡ true → Over j level ws b k
-  swept_goal r e t = record { fits = s.sweeping.fits; upper = s.sweeping.bounded.upper; below = λ g. absurd (at_goal_no r (at_goal k) e t g) }
-
 -- ---- the levels, down to runs of n words
 pub record Level (j : Job) (n : ℕ) (ws₀ b₀ : List ℕ) (k₀ : Totals) (ws b : List ℕ) (k : Totals) (bs : List ℕ) (level : ℕ) : Type 0 where
   pub ready : Ready j ws b k
@@ -151,23 +129,9 @@ pub record Level (j : Job) (n : ℕ) (ws₀ b₀ : List ℕ) (k₀ : Totals) (ws
   pub same_room : length ws ≡ length ws₀
   pub same_tiles : length b ≡ length b₀
 
-pub level_least : (j : Job) → j.minimum ≤ j.minimum
-level_least j = omega arith
-
-pub level_none : (j : Job) (n : ℕ) (ws b : List ℕ) (k : Totals) (bs : List ℕ) (level : ℕ) → j.minimum ≤ n → Ready j ws b k → Covering j ws bs → Greatest (λ c. get_or bs c 0) (block_count j) level → Level j n ws b k ws b k bs level
-level_none j n ws b k bs level h r c g =
-    record { ready = r; enough = h; covering = c; capped = λ going. covering_top j ws bs level c g; onward = onward_none j ws b k; same_room = refl; same_tiles = refl }
-
 module _ (j : Job) (n : ℕ) (ws₀ b₀ : List ℕ) (k₀ : Totals) (ws b : List ℕ) (k : Totals) (bs : List ℕ) (level : ℕ) (l : Level j n ws₀ b₀ k₀ ws b k bs level) where
   unswept : at_goal k ≡ false → Bounded j ws level 0
   unswept going = record { upper = l.ready.upper; capped = l.capped going; passed = λ q m. absurd (not-suc-le-zero m) }
-
-  -- A sweep can begin.
-  pub level_sweep : n ≤ level → at_goal k ≡ false → Sweeping j level 0 ws b k
-  level_sweep h going = record { fits = l.ready.fits; bounded = unswept going; long = omega (arith, l.enough); within = omega arith }
-
-  pub level_going : n ≤ level → (r : Bool) → r ≡ at_goal k → r ≡ false → Sweeping j level 0 ws b k
-  level_going h r e f = level_sweep h (sym e ∙ f)
 
   -- After it every bound is below the level, or the goal is reached; and none exceeds the greatest of the blocks.
   pub level_more : (ws' b' : List ℕ) (k' : Totals) (bs' : List ℕ) → Over j level ws' b' k' → Covering j ws' bs' → (top next : ℕ) → Greatest (λ c. get_or bs' c 0) (block_count j) top → next ≡ min (level - 1) top → Onward j ws b k ws' b' k' → length ws' ≡ length ws → length b' ≡ length b → Level j n ws₀ b₀ k₀ ws' b' k' bs' next
@@ -182,10 +146,6 @@ module _ (j : Job) (n : ℕ) (ws₀ b₀ : List ℕ) (k₀ : Totals) (ws b : Lis
         same_tiles = w ∙ l.same_tiles;
       }
 
-  -- The level falls, so this ends.
-  pub level_less : (top next : ℕ) → next ≡ min (level - 1) top → n ≤ level → next < level
-  level_less top next e h = omega (arith, e, l.enough, l.ready.fits.least)
-
   -- Below n nothing as long is left; and at the goal there is nothing more to do.
   pub level_done : level < n → Finished j n ws₀ b₀ k₀ ws b k
   level_done h =
@@ -195,6 +155,3 @@ module _ (j : Job) (n : ℕ) (ws₀ b₀ : List ℕ) (k₀ : Totals) (ws b : Lis
         onward = l.onward;
         short = λ going. omega (arith, (best_is s).long, below_level j ws level 0 l.ready.fits.space (unswept going) (best s).p (best s).t);
       }
-
-  pub level_goal : (r : Bool) → r ≡ at_goal k → r ≡ true → Finished j n ws₀ b₀ k₀ ws b k
-  level_goal r e t = record { fits = l.ready.fits; onward = l.onward; short = λ going. absurd (at_goal_no r (at_goal k) e t going) }

@@ -12,7 +12,7 @@ ghost use Rattle.sweep.specs.Goal.{at_goal};
 ghost use Rattle.sweep.specs.Settled.{one_more, laid_totals, settled_rows};
 ghost use Rattle.sweep.specs.Progress.{Searched, Sweeping, Onward};
 
-use bounds::Job;
+use bounds::{Job, View};
 use tile::{PatternAt, TextAt};
 
 // The longest run of a row and the first position on the text that has it.
@@ -23,7 +23,8 @@ pub struct Found {
 }
 
 // What a comparison is for: whether its tiles are listed, and where it stops: when as many words are covered as are enough, or
-// when fewer than are needed can still be. A whole comparison lists its tiles and never stops.
+// when fewer than are needed can still be. A whole comparison lists its tiles and never stops. Numbers are compared after each tile; a closure
+// in their place would carry the definition `at_goal` as a clause of its own.
 #[derive(Clone, Copy)]
 pub struct Goal {
     pub listed: bool,
@@ -78,74 +79,67 @@ pub fn settled_rows(before: Totals, after: Totals, level: usize) -> usize
 }
 
 // Whether two rows begin with the same calls for more than len words.
-fn alike(ws: &[u32], job: Job, p: PatternAt, q: PatternAt, len: usize) -> bool
-    requires { Space job ws.now × (p.0 < job.n) × (q.0 < job.n) }
-    ensures { result ≡ ltb len (run (drop p.0 (state job ws.now).pattern) (drop q.0 (state job ws.now).pattern)) }
+fn alike(view: &View<'_>, p: PatternAt, q: PatternAt, len: usize) -> bool
+    requires { (p.0 < view.now.job.n) × (q.0 < view.now.job.n) }
+    ensures { result ≡ ltb len (run (drop p.0 (state view.now.job view.now.words.now).pattern) (drop q.0 (state view.now.job view.now.words.now).pattern)) }
 {
     let a = p.0;
     let b = q.0;
-    if job.n - a <= len {
+    if view.job.n - a <= len {
         return false;
     }
-    if job.n - b <= len {
+    if view.job.n - b <= len {
         return false;
     }
     let a_end = a + len + 1;
     let b_end = b + len + 1;
-    len < measure::longer_run(&ws[a..a_end], &ws[b..b_end], len)
+    len < measure::longer_run(&view.words[a..a_end], &view.words[b..b_end], len)
 }
 
 // What row q tells of row p, of which no run exceeds cap: where both begin with the same calls for more words than q's bound,
 // no run of p exceeds that bound either. It is cap where q tells nothing less.
-fn alike_bound(ws: &[u32], job: Job, p: PatternAt, q: PatternAt, cap: usize) -> usize
-    requires { Space job ws.now × (p.0 < job.n) × (q.0 < job.n) }
-    ensures { result ≡ alike_bound job ws.now p.0 q.0 cap }
+fn alike_bound(view: &View<'_>, p: PatternAt, q: PatternAt, cap: usize) -> usize
+    requires { (p.0 < view.now.job.n) × (q.0 < view.now.job.n) }
+    ensures { result ≡ alike_bound view.now.job view.now.words.now p.0 q.0 cap }
 {
-    let len = bounds::bound_of(ws, job, q);
+    let len = view.bound_of(q);
     if cap <= len {
         return cap;
     }
-    if !alike(ws, job, p, q, len) {
+    if !alike(view, p, q, len) {
         return cap;
     }
     len
 }
 
 // The same of a row that need not be there: before `from`, or past the pattern, it tells nothing.
-pub fn bound_by(
-    ws: &[u32],
-    job: Job,
-    p: PatternAt,
-    q: PatternAt,
-    from: PatternAt,
-    cap: usize,
-) -> usize
-    requires { Space job ws.now × (p.0 < job.n) }
-    ensures { result ≡ bound_by job ws.now p.0 q.0 from.0 cap }
+pub fn bound_by(view: &View<'_>, p: PatternAt, q: PatternAt, from: PatternAt, cap: usize) -> usize
+    requires { p.0 < view.now.job.n }
+    ensures { result ≡ bound_by view.now.job view.now.words.now p.0 q.0 from.0 cap }
 {
     if q.0 < from.0 {
         return cap;
     }
-    if job.n <= q.0 {
+    if view.job.n <= q.0 {
         return cap;
     }
-    alike_bound(ws, job, p, q, cap)
+    alike_bound(view, p, q, cap)
 }
 
 // How many words a run of the row at p may have, where none exceeds cap: as many as there are, or, where the last of them is no call, as
 // the calls that it begins with.
-pub fn free_words(ws: &[u32], job: Job, p: PatternAt, cap: usize) -> usize
-    requires { Space job ws.now × (p.0 < job.n) × (1 ≤ cap) }
-    ensures { result ≡ free_words job ws.now p.0 cap }
+pub fn free_words(view: &View<'_>, p: PatternAt, cap: usize) -> usize
+    requires { (p.0 < view.now.job.n) × (1 ≤ cap) }
+    ensures { result ≡ free_words view.now.job view.now.words.now p.0 cap }
 {
     let from = p.0;
-    let n = job.n;
-    let len = buffer::lesser(cap, n - from);
+    let n = view.job.n;
+    let len = cap.min(n - from);
     let last = from + (len - 1);
-    if symbol::is_call(ws[last]) {
+    if symbol::is_call(view.words[last]) {
         return len;
     }
-    measure::longer_run(&ws[from..n], &ws[from..n], 0)
+    measure::longer_run(&view.words[from..n], &view.words[from..n], 0)
 }
 
 // How often a row's first word stands again right after it.
@@ -169,14 +163,15 @@ pub fn passed_over(again: usize, len: usize) -> usize
     0
 }
 
-// The position just before t in a text of m words; m where there is none.
+// The position just before t in a text of m words; m where there is none, as the definition `before` has it: an option would not be
+// plainer, since t may also lie past the text.
 pub fn one_before(t: TextAt, m: usize) -> TextAt
     ensures { result.0 ≡ before t.0 m }
 {
     if t.0 == 0 {
         return TextAt(m);
     }
-    TextAt(buffer::lesser(t.0 - 1, m))
+    TextAt((t.0 - 1).min(m))
 }
 
 // Whether a bound is taken over from the row after, without a search: where the run found there began at the text's beginning,
@@ -190,12 +185,12 @@ pub fn taken_over(after: TextAt, s: usize, cap: usize) -> bool
 }
 
 // How many fewer words of the pattern further tiles may take after one of len words at p.
-fn taken_by(ws: &[u32], job: Job, p: PatternAt, len: usize) -> usize
-    requires { Space job ws.now × OnFree job.minimum p.0 len (state job ws.now).pattern }
-    ensures { result + fillable job.minimum (mark p.0 len (state job ws.now).pattern) ≡ fillable job.minimum (state job ws.now).pattern }
+fn taken_by(view: &View<'_>, p: PatternAt, len: usize) -> usize
+    requires { OnFree view.now.job.minimum p.0 len (state view.now.job view.now.words.now).pattern }
+    ensures { result + fillable view.now.job.minimum (mark p.0 len (state view.now.job view.now.words.now).pattern) ≡ fillable view.now.job.minimum (state view.now.job view.now.words.now).pattern }
 {
-    let n = job.n;
-    stretch::taken(&ws[0..n], job.minimum, p.0, len)
+    let n = view.job.n;
+    stretch::taken(&view.words[0..n], view.job.minimum, p.0, len)
 }
 
 // Lays a tile and brings the record of the comparison up to date.
@@ -206,7 +201,7 @@ fn lay_next(ws: &mut [u32], job: Job, p: PatternAt, t: TextAt, len: usize, total
     ensures ws_after { ws.new ≡ laid job p.0 t.0 len ws.old }
 {
     let goal = totals.goal;
-    let taken = taken_by(ws, job, p, len);
+    let taken = taken_by(&View { job, words: ws }, p, len);
     bounds::lay_tile(ws, job, p, t, len);
     Totals {
         count: totals.count + 1,

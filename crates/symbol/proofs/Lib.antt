@@ -1,4 +1,3 @@
 pub mod Word
 pub mod Retired
 pub mod Sequence
-pub mod Refusal

@@ -1,45 +1,28 @@
 -- A test of each word of a sequence, word by word; and sequences without a retired code, which replacing leaves as they are.
 -- Assumes nothing.
-use Prim.Native.Nat.{ℕ, zero, suc, ◌≤◌, ◌<◌, ◌+◌}
+use Prim.Native.Nat.{ℕ, zero, suc, ◌<◌}
 use native.Mathlib.Nat.{not-suc-le-zero, le_of_suc-le-suc}
 use native.Mathlib.Omega.{arith}
-use native.Mathlib.Numerals.{add-one}
 use mathlib.Core.Path.{◌≡◌, refl, sym, ◌∙◌, ap, subst}
 use mathlib.Core.Bool.{Bool, true, false, not, ◌&&◌, and_assoc, and-true}
-use mathlib.Core.List.{List, [], ◌∷◌, ◌++◌, map}
+use mathlib.Core.List.{List, [], ◌∷◌, map}
 use borrow.Author.Tests.{not-true}
 use lib.ListN.{length, take, drop, get_or, get_or-map}
-use lib.Seq.{take-suc, take_all}
+use Rattle.std.specs.List.{fold}
 use Rattle.symbol.specs.Word.{kind, low, is_call, is_no_call, is_sound, is_retired, replaced}
 use Rattle.symbol.specs.Sequence.{every, all_sound, none_retired, Current}
 use Rattle.symbol.proofs.Word.{and_left, and_right}
 use Rattle.symbol.proofs.Retired.{replaced_none, replaced_below, replaced_twice}
 
--- ---- a loop over every word: whether each one before i passes the test
+-- ---- a fold over every word: whether each one passes the test
 module _ (test : ℕ → Bool) where
-  every_append : (xs ys : List ℕ) → every test (xs ++ ys) ≡ (every test xs && every test ys)
+  every_after : (a : Bool) (s : List ℕ) → fold (λ all w. all && test w) a s ≡ (a && every test s)
   unfolding every
-  every_append [] ys = refl
-  every_append (x ∷ xs) ys = rw (every_append xs ys, and_assoc (test x) (every test xs) (every test ys))
+  every_after a [] = sym (and-true a)
+  every_after a (w ∷ s) = rw (every_after (a && test w) s, and_assoc a (test w) (every test s))
 
-  pub record Passed (s : List ℕ) (i : ℕ) (all : Bool) : Type 0 where
-    pub within : i ≤ length s
-    pub held : all ≡ every test (take i s)
-
-  pub passed_none : (s : List ℕ) → Passed s 0 true
-  unfolding every
-  passed_none s = record { within = omega arith; held = refl }
-
-  pub passed_more : (s : List ℕ) (i : ℕ) (all t : Bool) → Passed s i all → i < length s → t ≡ test (get_or s i 0) → Passed s (i + 1) (all && t)
-  unfolding every
-  passed_more s i all t r h e =
-      record {
-        within = omega arith;
-        held = rw (add-one i, take-suc s i 0 h, every_append (take i s) (get_or s i 0 ∷ []), ← r.held, ← e, and-true t);
-      }
-
-  pub passed_all : (s : List ℕ) (i : ℕ) (all : Bool) → Passed s i all → length s ≤ i → all ≡ every test s
-  passed_all s i all r h = rw (take_all i s h) at r.held
+  pub every_fold : (s : List ℕ) → fold (λ all w. all && test w) true s ≡ every test s
+  every_fold s = every_after true s
 
   -- Each word of a list that passes does.
   pub every_at : (s : List ℕ) → every test s ≡ true → (i : ℕ) → i < length s → test (get_or s i 0) ≡ true
@@ -58,10 +41,6 @@ sound_not_zero s e i h z =
     let f : true ≡ false = sym (subst (λ w. is_sound w ≡ true) z (every_at is_sound s e i h)) ∙ zero_unsound in
     let c : ◌≡◌ {A = ℕ} 0 1 = cc in
     omega arith
-
--- The contrary of a test.
-pub unlike : (r t : Bool) → r ≡ t → not r ≡ not t
-unlike r t e = rw e refl
 
 -- ---- replacing word by word
 pub get_or_replaced : (ws : List ℕ) (i : ℕ) → get_or (map replaced ws) i 0 ≡ replaced (get_or ws i 0)

@@ -1,3 +1,2 @@
 pub mod Word
 pub mod Sequence
-pub mod Refusal

@@ -10,14 +10,6 @@ const REPLACEMENTS: [u32; 16] = [
     11, 14, 14, 27, 30, 52, 52, 52, 101, 118, 240, 241, 300, 512, 777, 1024,
 ];
 
-// The answer of a call that counts what it wrote: a refusal's number and 0, or 0 and the count.
-#[repr(C)]
-#[derive(Clone, Copy)]
-pub struct Counted {
-    pub refusal: u32,
-    pub count: u32,
-}
-
 // Whether a word is a call.
 pub fn is_call(w: u32) -> bool
     ensures { result ≡ is_call w }
@@ -76,24 +68,12 @@ pub fn words_match(a: u32, b: u32) -> bool
 pub fn all_sound(s: &[u32]) -> bool
     ensures { result ≡ all_sound s.now }
 {
-    let mut all = true;
-    let mut i = 0;
-    while i < s.len() {
-        all = all & is_sound(s[i]);
-        i += 1;
-    }
-    all
+    s.iter().fold(true, |all, w| all & is_sound(*w))
 }
 
 // Whether no word is a call of a retired code.
 pub fn none_retired(s: &[u32]) -> bool
     ensures { result ≡ none_retired s.now }
 {
-    let mut all = true;
-    let mut i = 0;
-    while i < s.len() {
-        all = all & !is_retired(s[i]);
-        i += 1;
-    }
-    all
+    s.iter().fold(true, |all, w| all & !is_retired(*w))
 }

@@ -1,3 +1,4 @@
 pub mod Promise
+pub mod Outcome
 pub mod Words
 pub mod Known

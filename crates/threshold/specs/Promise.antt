@@ -1,6 +1,6 @@
 -- Whether two sequences score at least a threshold (02, U5: the line), for any input, and how many tiles it takes to tell.
 use Rattle.std.specs.Prelude.{ℕ, ◌+◌, ◌≡◌, Bool, not, ◌||◌, List, leb, ltb, length}
-use Rattle.symbol.specs.Refusal.{refuse, outcome}
+use Rattle.refusal.specs.Refusal.{refuse, outcome}
 use Rattle.tiling.specs.Tally.{one}
 use Rattle.tiling.specs.Stretch.{fillable}
 use Rattle.tiling.specs.Listing.{Entry, listing, covered, score}

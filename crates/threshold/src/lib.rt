@@ -2,22 +2,49 @@
 // are covered, or when so many no longer can be.
 #![tactic(auto)]
 
-ghost use Rattle.std.specs.Prelude.{◌≡◌, ◌+◌, ◌*◌, ◌≤◌, length, replicate};
-ghost use Rattle.tiling.specs.Tally.{one};
-ghost use Rattle.tiling.specs.Comparing.{Comparable, InRange};
+ghost use Rattle.std.specs.Prelude.{◌≡◌, ◌+◌, ◌*◌, ◌≤◌, length, replicate, Ok, IfOk};
+ghost use Rattle.refusal.specs.Number.{numbered};
 ghost use Rattle.threshold.specs.Promise.{threshold_refusal, told_answer, AtLeast};
+ghost use Rattle.threshold.specs.Outcome.{told_as};
 ghost use Rattle.threshold.specs.Words.{words_for, goal_for};
 
-use search::Settings;
+use refusal::Refusal;
+use search::{Search, Settings};
 use sweep::Goal;
 
-// The answer: a refusal's number and zeros, or 0, whether the threshold is reached, 1 or 0, and the tiles laid.
+// Whether the threshold is reached, and how many tiles were laid until that was told.
+#[derive(Clone, Copy)]
+pub struct Verdict {
+    pub reached: bool,
+    pub tiles: u32,
+}
+
+// The answer of an exported call: a refusal's number and zeros, or 0, whether the threshold is reached, 1 or 0, and the tiles laid.
 #[repr(C)]
 #[derive(Clone, Copy)]
 pub struct Told {
     pub refusal: u32,
     pub reached: u32,
     pub tiles: u32,
+}
+
+impl From<Result<Verdict, Refusal>> for Told {
+    ghost from_gives = { λ outcome answer. answer ≡ told_as outcome };
+
+    fn from(outcome: Result<Verdict, Refusal>) -> Told {
+        match outcome {
+            Ok(verdict) => Told {
+                refusal: 0,
+                reached: u32::from(verdict.reached),
+                tiles: verdict.tiles,
+            },
+            Err(refusal) => Told {
+                refusal: u32::from(refusal),
+                reached: 0,
+                tiles: 0,
+            },
+        }
+    }
 }
 
 // The fewest covered words, of sequences with total words together, that score at least the threshold.
@@ -45,72 +72,50 @@ fn goal_for(threshold: u32, total: usize) -> Goal
     }
 }
 
-// 1 for yes, 0 for no.
-fn flag(yes: bool) -> u32
-    ensures { result ≡ one yes }
-{
-    if yes {
-        return 1;
-    }
-    0
-}
-
 // Lays tiles until it is told, and clears the workspace.
-fn tell(
-    first: &[u32],
-    second: &[u32],
-    minimum: u32,
-    threshold: u32,
-    settings: Settings,
-    workspace: &mut [u32],
-) -> Told
-    requires comparable { Comparable first.now second.now minimum }
-    requires in_range { InRange minimum settings.buckets settings.start }
-    requires room_and_threshold { (4 * (length first.now + length second.now) ≤ length workspace.old) × (threshold ≤ 1000) }
-    ensures value { result ≡ told_answer 0 first.now second.now minimum threshold }
+fn tell(search: Search<'_>, threshold: u32, workspace: &mut [u32]) -> Verdict
+    requires { (4 * (length search.pair.first.now + length search.pair.second.now) ≤ length workspace.old) × (threshold ≤ 1000) }
+    ensures value { told_as (Ok result) ≡ told_answer 0 search.entry.pair.first.now search.entry.pair.second.now search.entry.pair.minimum threshold }
     ensures workspace_after { workspace.new ≡ replicate (length workspace.old) 0 }
 {
-    let goal = goal_for(threshold, first.len() + second.len());
+    let goal = goal_for(
+        threshold,
+        search.pair.first.len() + search.pair.second.len(),
+    );
     let mut none = [0u32; 1];
-    let sum = search::lay(first, second, minimum, goal, settings, workspace, &mut none);
+    let sum = search::lay(search, goal, workspace, &mut none);
     ends::clear(workspace);
-    let reached = flag(goal.enough <= sum.covered);
-    Told {
-        refusal: 0,
-        reached,
+    Verdict {
+        reached: goal.enough <= sum.covered,
         tiles: sum.count as u32,
     }
 }
 
-// Why it is refused; 0 where it is not.
-fn threshold_refusal(
-    first: &[u32],
-    second: &[u32],
+// The checks: those of the search, of the workspace, and then of the threshold.
+fn check_threshold<'a>(
+    first: &'a [u32],
+    second: &'a [u32],
     minimum: u32,
     threshold: u32,
     settings: Settings,
     workspace: usize,
-) -> u32
-    ensures { result ≡ threshold_refusal first.now second.now minimum settings.buckets settings.start threshold workspace }
+) -> Result<Search<'a>, Refusal>
+    ensures checked { numbered result ≡ threshold_refusal first.now second.now minimum settings.buckets settings.start threshold workspace }
+    ensures same { IfOk result (λ search. (search.pair.first.now ≡ first.now) × (search.pair.second.now ≡ second.now) × (search.pair.minimum ≡ minimum) × (search.settings ≡ settings)) }
 {
-    let of_search = search::search_refusal(first, second, minimum, settings);
-    if of_search != 0 {
-        return of_search;
-    }
-    let of_workspace = checks::workspace_refusal(first, second, workspace);
-    if of_workspace != 0 {
-        return of_workspace;
-    }
+    let search = search::check_search(first, second, minimum, settings)?;
+    checks::check_workspace(first, second, workspace)?;
     if 1000 < threshold {
-        return 12;
+        return Err(Refusal::Threshold);
     }
-    0
+    Ok(search)
 }
 
-// Whether a comparison of two sequences, by a search that is set as given, would score at least the threshold: 1 for yes, 0 for no.
-// It lays tiles until that is told, and answers how many: the fewest, 0 included, after which what they cover scores at least the
-// threshold, or less even with the pattern's free stretches of at least the minimum added; else all. No tile is listed, and the
-// whole workspace is zero. Refused: 1 to 6 as the comparison, then 12 for a threshold above 1,000; the workspace is then as it was.
+// Whether a comparison of two sequences, by a search that is set as given, would score at least the threshold. It lays tiles
+// until that is told, and answers how many: the fewest, 0 included, after which what they cover scores at least the threshold,
+// or less even with the pattern's free stretches of at least the minimum added; else all. No tile is listed, and the whole
+// workspace is zero. Refused: as the comparison, but for the tile buffer, then `Threshold` for one above 1,000; the workspace
+// is then as it was.
 pub fn at_least(
     first: &[u32],
     second: &[u32],
@@ -118,16 +123,9 @@ pub fn at_least(
     threshold: u32,
     settings: Settings,
     workspace: &mut [u32],
-) -> Told
-    ensures { AtLeast first.now second.now minimum settings.buckets settings.start threshold workspace.old result workspace.new }
+) -> Result<Verdict, Refusal>
+    ensures { AtLeast first.now second.now minimum settings.buckets settings.start threshold workspace.old (told_as result) workspace.new }
 {
-    let refusal = threshold_refusal(first, second, minimum, threshold, settings, workspace.len());
-    if refusal != 0 {
-        return Told {
-            refusal,
-            reached: 0,
-            tiles: 0,
-        };
-    }
-    tell(first, second, minimum, threshold, settings, workspace)
+    let search = check_threshold(first, second, minimum, threshold, settings, workspace.len())?;
+    Ok(tell(search, threshold, workspace))
 }

@@ -1,15 +1,13 @@
--- Marking word by word: a zero written right after a marked stretch makes the stretch one word longer.
+-- Marking a stretch of words: what it leaves of the parts of a list, and that it is zeros in the place of the stretch.
 -- Assumes nothing.
-use Prim.Native.Nat.{ℕ, zero, suc, ◌+◌, ◌≤◌, ◌<◌}
+use Prim.Native.Nat.{ℕ, zero, suc, ◌+◌, ◌-◌, ◌≤◌}
 use native.Mathlib.Nat.{not-suc-le-zero, le_of_suc-le-suc}
 use native.Mathlib.Omega.{arith}
-use native.Mathlib.Numerals.{add-one}
-use mathlib.Core.Path.{◌≡◌, refl, ◌∙◌, ap}
-use mathlib.Core.List.{List, [], ◌∷◌}
-use lib.ListN.{length, take, drop, set, replicate}
+use mathlib.Core.Path.{◌≡◌, refl, ap}
+use mathlib.Core.List.{List, [], ◌∷◌, ◌++◌}
+use lib.ListN.{length, take, drop, replicate, length-take, length-drop}
 use lib.Seq.{take-nil, drop-nil}
 use Rattle.tiling.specs.Run.{mark}
-use Rattle.tiling.proofs.Run.{length_mark}
 
 -- No word marked.
 pub mark_none : (i : ℕ) (xs : List ℕ) → mark i 0 xs ≡ xs
@@ -17,14 +15,6 @@ unfolding mark
 mark_none i [] = refl
 mark_none (suc i) (x ∷ xs) = ap (λ ys. x ∷ ys) (mark_none i xs)
 mark_none zero (x ∷ xs) = refl
-
--- One more word marked; past the end neither side changes anything.
-pub mark_more : (i n : ℕ) (xs : List ℕ) → set (mark i n xs) (i + n) 0 ≡ mark i (suc n) xs
-unfolding mark
-mark_more i n [] = refl
-mark_more (suc i) n (x ∷ xs) = let e : suc i + n ≡ suc (i + n) = omega arith in rw e (ap (λ ys. x ∷ ys) (mark_more i n xs))
-mark_more zero zero (x ∷ xs) = rw (mark_none 0 xs) refl
-mark_more zero (suc n) (x ∷ xs) = let e : 0 + suc n ≡ suc (0 + n) = omega arith in rw e (ap (λ ys. 0 ∷ ys) (mark_more zero n xs))
 
 -- Every word marked.
 pub mark_all : (xs : List ℕ) → mark 0 (length xs) xs ≡ replicate (length xs) 0
@@ -65,20 +55,22 @@ drop_mark_in k i n [] = rw (drop-nil {A = ℕ} k) refl
 drop_mark_in zero i n (x ∷ xs) = let e : 0 + i ≡ i = omega arith in rw e refl
 drop_mark_in (suc k) i n (x ∷ xs) = let e : suc k + i ≡ suc (k + i) = omega arith in rw e (drop_mark_in k i n xs)
 
--- ---- the loop of mark_words: i words are marked
-pub record Marked (at len : ℕ) (xs₀ xs : List ℕ) (i : ℕ) : Type 0 where
-  pub within : i ≤ len
-  pub room : at + len ≤ length xs₀
-  pub held : xs ≡ mark at i xs₀
-  pub same : length xs ≡ length xs₀
+-- ---- the part of mark_words: zeros in its place are marks
+zeros_here : (n : ℕ) (xs : List ℕ) → n ≤ length xs → replicate n 0 ++ drop n xs ≡ mark 0 n xs
+unfolding mark
+zeros_here zero [] h = refl
+zeros_here zero (x ∷ xs) h = refl
+zeros_here (suc n) [] h = absurd (not-suc-le-zero h)
+zeros_here (suc n) (x ∷ xs) h = ap (λ ys. 0 ∷ ys) (zeros_here n xs (le_of_suc-le-suc h))
 
-pub marked_none : (at len : ℕ) (xs : List ℕ) → at + len ≤ length xs → Marked at len xs xs 0
-marked_none at len xs h = record { within = omega arith; room = h; held = rw (mark_none at xs) refl; same = refl }
+zeros_at : (at n : ℕ) (xs : List ℕ) → at + n ≤ length xs → take at xs ++ (replicate n 0 ++ drop n (drop at xs)) ≡ mark at n xs
+unfolding mark
+zeros_at zero n xs h = zeros_here n xs (omega arith)
+zeros_at (suc at) n [] h = absurd (omega arith)
+zeros_at (suc at) n (x ∷ xs) h = ap (λ ys. x ∷ ys) (zeros_at at n xs (omega arith))
 
-pub marked_more : (at len : ℕ) (xs₀ xs : List ℕ) (i : ℕ) → Marked at len xs₀ xs i → i < len → Marked at len xs₀ (set xs (at + i) 0) (i + 1)
-marked_more at len xs₀ xs i r h =
-    let e : set xs (at + i) 0 ≡ mark at (i + 1) xs₀ = rw (r.held, mark_more at i xs₀, add-one i) refl in
-    record { within = omega arith; room = r.room; held = e; same = ap length e ∙ length_mark at (i + 1) xs₀ }
-
-pub marked_all : (at len : ℕ) (xs₀ xs : List ℕ) (i : ℕ) → Marked at len xs₀ xs i → len ≤ i → xs ≡ mark at len xs₀
-marked_all at len xs₀ xs i r h = let e : i ≡ len = omega (arith, r.within) in rw e at r.held
+pub mark_put : (at n : ℕ) (xs ys : List ℕ) → at + n ≤ length xs → ys ≡ replicate (length (take (at + n - at) (drop at xs))) 0 → take at xs ++ (ys ++ drop (at + n - at) (drop at xs)) ≡ mark at n xs
+mark_put at n xs ys h e =
+    let k : at + n - at ≡ n = omega arith in
+    let l : length (take n (drop at xs)) ≡ n = omega (arith, length-take n (drop at xs), length-drop at xs) in
+    rw (e, k, l) (zeros_at at n xs h)

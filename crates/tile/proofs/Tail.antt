@@ -1,24 +1,16 @@
 -- Words written to the start of a list's tail: what lies before the tail stays, and so does what lies beyond the words.
 -- Assumes nothing.
 use Prim.Native.Nat.{ℕ, ◌+◌, ◌*◌, ◌-◌, ◌≤◌}
-use native.Mathlib.Nat.{not-suc-le-zero, le_of_suc-le-suc}
 use native.Mathlib.Omega.{arith}
 use mathlib.Core.Path.{◌≡◌, refl}
 use mathlib.Core.Bool.{Bool, true, false}
 use mathlib.Core.List.{List, [], ◌∷◌, ◌++◌, append_assoc, append-nil}
-use lib.ListN.{length, take, drop, set, length-append, length-take, length-drop, drop_of_length-le}
+use lib.ListN.{length, take, drop, length-append, length-take, length-drop, drop_of_length-le}
 use lib.Seq.{take_at, drop_at, drop-drop}
 use Rattle.buffer.specs.Buffer.{onto}
 use Rattle.buffer.proofs.Buffer.{length_onto, tail_is}
 use Rattle.tiling.specs.Listing.{Entry, tile_words}
 use Rattle.tile.specs.Listed.{listed}
-
--- Three words stored one by one.
-pub three_stored : (a b c : ℕ) (xs : List ℕ) → 3 ≤ length xs → set (set (set xs 0 a) 1 b) 2 c ≡ onto (a ∷ b ∷ c ∷ []) xs
-three_stored a b c [] h = absurd (not-suc-le-zero h)
-three_stored a b c (x ∷ []) h = absurd (not-suc-le-zero (le_of_suc-le-suc h))
-three_stored a b c (x ∷ y ∷ []) h = absurd (not-suc-le-zero (le_of_suc-le-suc (le_of_suc-le-suc h)))
-three_stored a b c (x ∷ y ∷ z ∷ xs) h = refl
 
 -- Nothing follows the part of a list from a position to its end.
 pub tail_last : (at : ℕ) (xs : List ℕ) → drop (length xs - at) (drop at xs) ≡ []

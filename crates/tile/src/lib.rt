@@ -19,21 +19,15 @@ pub fn mark_words(words: &mut [u32], at: usize, len: usize)
     requires { at + len ≤ length words.old }
     ensures { words.new ≡ mark at len words.old }
 {
-    let mut i = 0;
-    while i < len {
-        words[at + i] = 0;
-        i += 1;
-    }
+    words[at..at + len].fill(0);
 }
 
-// Writes the three words of a tile to the start of what is left of the tile buffer.
+// Writes the three words of a tile to the start of what is left of the tile buffer, which C lends as words.
 fn write_tile(tail: &mut [u32], first: u32, second: u32, len: u32)
     requires { 3 ≤ length tail.old }
     ensures { tail.new ≡ onto (first ∷ second ∷ len ∷ []) tail.old }
 {
-    tail[0] = first;
-    tail[1] = second;
-    tail[2] = len;
+    tail[..3].copy_from_slice(&[first, second, len]);
 }
 
 // Lists a tile after the count tiles that are listed already. The pattern is the first sequence where straight is true,

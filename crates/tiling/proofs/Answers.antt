@@ -6,7 +6,7 @@ use native.Mathlib.Omega.{arith}
 use mathlib.Core.Path.{◌≡◌, refl, sym, ◌∙◌, ap}
 use mathlib.Core.List.{List, [], map}
 use lib.ListN.{length, replicate}
-use Rattle.symbol.specs.Refusal.{outcome}
+use Rattle.refusal.specs.Refusal.{outcome}
 use Rattle.tiling.specs.Each.{Each, none}
 use Rattle.tiling.specs.Greedy.{Begins}
 use Rattle.tiling.specs.Listing.{Entry, listing, outside_listing, covered}

@@ -1,19 +1,21 @@
--- The chain of a comparison's refusals, part by part: what each part says where none of its causes holds, that it then leaves the number to
--- the later parts, and how what the code of a part answered is carried to the whole chain. Each part asks the same of both sequences, so
--- exchanging them changes no number.
+-- The chain of a comparison's refusals, part by part: what each part says where none of its causes holds, and that it then leaves the number to
+-- the later parts. Each part asks the same of both sequences, so exchanging them changes no number.
 -- Assumes nothing.
 use Prim.Native.Nat.{ℕ, ◌+◌, ◌*◌, ◌/◌, ◌≤◌, min}
 use native.Mathlib.Omega.{arith}
-use mathlib.Core.Path.{◌≡◌, refl, sym, ◌∙◌, ap}
+use mathlib.Core.Path.{◌≡◌, refl, ◌∙◌, ap}
 use mathlib.Core.Bool.{true, false, not}
 use mathlib.Core.List.{List}
 use borrow.Author.Tests.{eqb-false, ltb-false, not-false, le-ltb, ne_eqb}
 use lib.Dec.{eqb, ltb}
 use lib.ListN.{length}
 use Rattle.symbol.specs.Sequence.{all_sound, too_long}
-use Rattle.symbol.specs.Refusal.{refuse}
-use Rattle.symbol.proofs.Refusal.{refuse_swap, clear, Part, part_end, part_cause, part_then, part_stops, part_goes}
-use Rattle.tiling.specs.Comparing.{sequences, minimums, settings, room, plain_refusal, search_checks, fast_checks, Comparable, InRange, Roomy}
+use Rattle.refusal.specs.Refusal.{refuse}
+use Rattle.refusal.specs.Number.{number}
+use Rattle.refusal.specs.declared.Refusal.{Refusal}
+use Rattle.refusal.proofs.Causes.{refuse_swap, clear}
+use Rattle.refusal.proofs.Number.{stops, stopped}
+use Rattle.tiling.specs.Comparing.{sequences, minimums, settings, room, plain_refusal, search_checks, fast_checks, fast_refusal, Comparable, InRange, Roomy}
 
 -- ---- no cause holds
 record SequencesClear (first second : List ℕ) (later : ℕ) : Type 0 where
@@ -128,9 +130,6 @@ module _ (first second : List ℕ) (minimum buckets start later : ℕ) (e : sear
 
 -- And there is room.
 module _ (first second : List ℕ) (minimum workspace tiles : ℕ) where
-  pub plain_roomy : plain_refusal first second minimum workspace tiles ≡ 0 → Roomy (length first) (length second) minimum workspace tiles
-  plain_roomy e = (room_clear (length first) (length second) minimum workspace tiles 0 (comparable_clear first second minimum _ e).rest).roomy
-
   module _ (buckets start later : ℕ) (e : fast_checks first second minimum buckets start workspace tiles later ≡ 0) where
     room_is : RoomClear (length first) (length second) minimum workspace tiles later
     room_is = room_clear (length first) (length second) minimum workspace tiles later (search_rest first second minimum buckets start _ e)
@@ -213,69 +212,43 @@ fast_checks_exchange first second minimum buckets start workspace tiles later =
     search_checks_exchange first second minimum buckets start _
     ∙ ap (search_checks second first minimum buckets start) (room_exchange (length first) (length second) minimum workspace tiles later)
 
--- ---- the parts of the chain
-sequences_part : (first second : List ℕ) → Part (sequences first second)
-sequences_part first second =
-    part_cause _ (too_long first) 1 (omega arith)
-    (part_cause _ (too_long second) 1 (omega arith)
-    (part_cause _ (not (all_sound first)) 2 (omega arith) (part_cause _ (not (all_sound second)) 2 (omega arith) part_end)))
+-- ---- a refusal in a part stops the chain, whatever is checked later
+sequences_stop : (first second : List ℕ) (e : Refusal) {x y : ℕ} → (number e ≡ x → number e ≡ y) → number e ≡ sequences first second x → number e ≡ sequences first second y
+sequences_stop first second e f =
+    stops e (too_long first) 1
+    (stops e (too_long second) 1
+    (stops e (not (all_sound first)) 2
+    (stops e (not (all_sound second)) 2 f)))
 
-minimums_part : (minimum : ℕ) → Part (minimums minimum)
-minimums_part minimum = part_cause _ (eqb minimum 0) 3 (omega arith) (part_cause _ (ltb 256 minimum) 3 (omega arith) part_end)
+minimums_stop : (minimum : ℕ) (e : Refusal) {x y : ℕ} → (number e ≡ x → number e ≡ y) → number e ≡ minimums minimum x → number e ≡ minimums minimum y
+minimums_stop minimum e f = stops e (eqb minimum 0) 3 (stops e (ltb 256 minimum) 3 f)
 
-comparable_part : (first second : List ℕ) (minimum : ℕ) → Part (λ k. sequences first second (minimums minimum k))
-comparable_part first second minimum = part_then (sequences first second) (minimums minimum) (sequences_part first second) (minimums_part minimum)
+settings_stop : (minimum buckets start : ℕ) (e : Refusal) {x y : ℕ} → (number e ≡ x → number e ≡ y) → number e ≡ settings minimum buckets start x → number e ≡ settings minimum buckets start y
+settings_stop minimum buckets start e f =
+    stops e (eqb buckets 0) 4
+    (stops e (ltb 1024 buckets) 4
+    (stops e (ltb start minimum) 5
+    (stops e (ltb 2048 start) 5 f)))
 
-settings_part : (minimum buckets start : ℕ) → Part (settings minimum buckets start)
-settings_part minimum buckets start =
-    part_cause _ (eqb buckets 0) 4 (omega arith)
-    (part_cause _ (ltb 1024 buckets) 4 (omega arith)
-    (part_cause _ (ltb start minimum) 5 (omega arith) (part_cause _ (ltb 2048 start) 5 (omega arith) part_end)))
+room_stop : (n m minimum workspace tiles : ℕ) (e : Refusal) {x y : ℕ} → (number e ≡ x → number e ≡ y) → number e ≡ room n m minimum workspace tiles x → number e ≡ room n m minimum workspace tiles y
+room_stop n m minimum workspace tiles e f =
+    stops e (ltb workspace (4 * (n + m))) 6
+    (stops e (ltb tiles (3 * (min n m / minimum))) 7 f)
 
-room_part : (n m minimum workspace tiles : ℕ) → Part (room n m minimum workspace tiles)
-room_part n m minimum workspace tiles =
-    part_cause _ (ltb workspace (4 * (n + m))) 6 (omega arith)
-    (part_cause _ (ltb tiles (3 * (min n m / minimum))) 7 (omega arith) part_end)
+module _ (first second : List ℕ) (e : Refusal) (later : ℕ) where
+  pub sequences_stopped : number e ≡ sequences first second 0 → number e ≡ sequences first second later
+  sequences_stopped = sequences_stop first second e (stopped e later)
 
--- All that the search checks is a part of what a service checks, without room and with it.
-pub search_part : (first second : List ℕ) (minimum buckets start : ℕ) → Part (search_checks first second minimum buckets start)
-search_part first second minimum buckets start =
-    part_then (λ k. sequences first second (minimums minimum k)) (settings minimum buckets start) (comparable_part first second minimum) (settings_part minimum buckets start)
+  pub pair_stopped : (minimum : ℕ) → number e ≡ sequences first second (minimums minimum 0) → number e ≡ sequences first second (minimums minimum later)
+  pair_stopped minimum = sequences_stop first second e (minimums_stop minimum e (stopped e later))
 
-pub fast_part : (first second : List ℕ) (minimum buckets start workspace tiles : ℕ) → Part (fast_checks first second minimum buckets start workspace tiles)
-fast_part first second minimum buckets start workspace tiles =
-    part_then (search_checks first second minimum buckets start) (room (length first) (length second) minimum workspace tiles)
-    (search_part first second minimum buckets start)
-    (room_part (length first) (length second) minimum workspace tiles)
+  pub search_stopped : (minimum buckets start : ℕ) → number e ≡ search_checks first second minimum buckets start 0 → number e ≡ search_checks first second minimum buckets start later
+  search_stopped minimum buckets start =
+      sequences_stop first second e (minimums_stop minimum e (settings_stop minimum buckets start e (stopped e later)))
 
--- What the code of the parts answered. A cause of the sequences stops the chain, and then the minimum decides.
-module _ (first second : List ℕ) (minimum q : ℕ) (of-sequences : q ≡ sequences first second 0) where
-  pub sequences_refused : (q ≡ 0 → ⊥) → q ≡ sequences first second (minimums minimum 0)
-  sequences_refused = part_stops (sequences first second) (sequences_part first second) q (minimums minimum 0) of-sequences
-
-  pub minimum_decides : q ≡ 0 → (r : ℕ) → r ≡ minimums minimum 0 → r ≡ sequences first second (minimums minimum 0)
-  minimum_decides z r = part_goes (sequences first second) (sequences_part first second) q r (minimums minimum 0) of-sequences z
-
--- A cause of both stops the chain, and then what comes later decides.
-module _ (first second : List ℕ) (minimum q : ℕ) (of_pair : q ≡ sequences first second (minimums minimum 0)) where
-  pub pair_refused : (later : ℕ) → (q ≡ 0 → ⊥) → q ≡ sequences first second (minimums minimum later)
-  pair_refused later = part_stops _ (comparable_part first second minimum) q later of_pair
-
-  module _ (z : q ≡ 0) where
-    pub comparable_of : Comparable first second minimum
-    comparable_of = comparable first second minimum 0 (sym of_pair ∙ z)
-
-    pub later_decides : (later r : ℕ) → r ≡ later → r ≡ sequences first second (minimums minimum later)
-    later_decides later r = part_goes _ (comparable_part first second minimum) q r later of_pair z
-
--- A cause of all that the search checks stops the chain, and then what comes later decides.
-module _ (first second : List ℕ) (minimum buckets start q : ℕ) (of-search : q ≡ search_checks first second minimum buckets start 0) where
-  pub search_refused : (later : ℕ) → (q ≡ 0 → ⊥) → q ≡ search_checks first second minimum buckets start later
-  search_refused later = part_stops _ (search_part first second minimum buckets start) q later of-search
-
-  module _ (z : q ≡ 0) where
-    pub comparable_searched : Comparable first second minimum
-    comparable_searched = comparable first second minimum _ (sym of-search ∙ z)
-
-    pub search_decides : (later r : ℕ) → r ≡ later → r ≡ search_checks first second minimum buckets start later
-    search_decides later r = part_goes _ (search_part first second minimum buckets start) q r later of-search z
+  pub fast_stopped : (minimum buckets start workspace tiles : ℕ) → number e ≡ fast_refusal first second minimum buckets start workspace tiles → number e ≡ fast_checks first second minimum buckets start workspace tiles later
+  fast_stopped minimum buckets start workspace tiles =
+      sequences_stop first second e
+      (minimums_stop minimum e
+      (settings_stop minimum buckets start e
+      (room_stop (length first) (length second) minimum workspace tiles e (stopped e later))))

@@ -1,6 +1,6 @@
 -- What a comparison leaves behind, whichever engine made it: functions of the refusal's number r (0 for none) and of the tiles.
 use Rattle.std.specs.Prelude.{ℕ, ◌+◌, ◌≡◌, List, length, replicate}
-use Rattle.symbol.specs.Refusal.{outcome}
+use Rattle.refusal.specs.Refusal.{outcome}
 use Rattle.buffer.specs.Buffer.{onto}
 use Rattle.tiling.specs.Listing.{Entry, listing, tile_words, covered, score}
 use Rattle.tiling.specs.declared.Compared.{Compared}

@@ -1,7 +1,7 @@
 -- Why a comparison is refused. "Comparing checks 1 to 7 in that order." The plain engine has no settings, so no 4 and 5.
 use Rattle.std.specs.Prelude.{ℕ, ◌+◌, ◌*◌, ◌/◌, ◌≤◌, min, ◌≡◌, true, not, List, eqb, ltb, length}
 use Rattle.symbol.specs.Sequence.{all_sound, too_long}
-use Rattle.symbol.specs.Refusal.{refuse}
+use Rattle.refusal.specs.Refusal.{refuse}
 
 -- 1: "A strand has more than 2,048 words"; 2: "A strand word is neither call nor no-call".
 abbrev pub sequences : List ℕ → List ℕ → ℕ → ℕ

@@ -8,6 +8,7 @@ pub mod Stretch
 pub mod Listing
 pub mod Until
 pub mod Comparing
+pub mod Outcome
 pub mod Answer
 pub mod Known
 pub mod Demand

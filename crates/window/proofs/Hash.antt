@@ -2,19 +2,11 @@
 -- first word's share is the word times a power of B, so it can be taken out again; and since sums and products keep
 -- congruence, each step may wrap.
 -- Assumes nothing.
-use Rattle.std.proofs.Common.{◌≡◌, ℕ, suc, ◌+◌, ◌-◌, ◌*◌, ◌%◌, ◌^◌, ◌<◌, ◌≤◌, List, [], ◌∷◌, ◌++◌, map, length, get_or, take, sym, refl, ◌∙◌, add_assoc, mul_assoc, add-mul, mul-le-mul, add_comm, pow-suc, mul-one, add-one, arith, length-append, take_all, take-suc}
-use native.Mathlib.Nat.{mod-add-mod, pow-zero}
-use lib.ListN.{length-map}
-use Rattle.symbol.specs.Word.{replaced}
-use Rattle.symbol.proofs.Sequence.{get_or_replaced}
-use Rattle.window.specs.Hash.{weigh, words_hash, hash}
+use Rattle.std.proofs.Common.{◌≡◌, ℕ, zero, suc, ◌+◌, ◌-◌, ◌*◌, ◌%◌, ◌^◌, ◌<◌, ◌≤◌, List, [], ◌∷◌, ◌++◌, fold, length, get_or, take, sym, refl, ◌∙◌, add_assoc, mul_assoc, add-mul, add_comm, pow-suc, mul-one, add-one, arith, length-append, take_all, take-suc}
+use native.Mathlib.Nat.{pow-zero}
+use Rattle.std.proofs.lemmas.Grind.{fold-append}
+use Rattle.window.specs.Hash.{weigh, words_hash}
 use Rattle.window.proofs.Congruence.{Congruent, congruent_refl, congruent_sym, congruent_trans, congruent_mod, congruent_add, congruent_mul, congruent_cancel}
-
--- The product of two words fits 64 bits.
-pub product_fits : (a b : ℕ) → a < 2 ^ 32 → b < 2 ^ 32 → a * b < 2 ^ 64
-product_fits a b h k =
-    let most : a * b ≤ (2 ^ 32 - 1) * (2 ^ 32 - 1) = mul-le-mul {n₂ = 2 ^ 32 - 1} {m₂ = 2 ^ 32 - 1} (omega arith) (omega arith) in
-    omega arith
 
 -- ---- one more word
 weigh_more : (B : ℕ) (ws : List ℕ) (x : ℕ) → weigh B (ws ++ (x ∷ [])) ≡ weigh B ws * B + x
@@ -32,62 +24,42 @@ pub horner : (B : ℕ) (ws : List ℕ) (x : ℕ) → words_hash B (ws ++ (x ∷ 
 unfolding words_hash
 horner B ws x = hash_more B ws (words_hash B ws) x (congruent_mod refl)
 
--- The product may wrap before the sum does.
-wrapped : (h B x product r : ℕ) → product ≡ (h * B) % 2 ^ 32 → r ≡ (product + x) % 2 ^ 32 → r ≡ (h * B + x) % 2 ^ 32
-wrapped h B x product r p s = s ∙ rw p (mod-add-mod (h * B) (2 ^ 32) x)
+-- ---- the window one position on: the first word's share is taken out, and what is left is congruent to what the other words weigh
+taken_out : (h share : ℕ) → h < 2 ^ 32 → share < 2 ^ 32 → ((h + (2 ^ 32 - share)) % 2 ^ 32 + share) % 2 ^ 32 ≡ h
+taken_out h share l k = omega arith
 
--- ---- the window one position on: the first word's share is taken out, and `rest` is congruent to what the other words weigh
-pub rolled : (B : ℕ) (ws : List ℕ) (h outgoing power share rest product incoming r : ℕ) → share ≡ (outgoing * power) % 2 ^ 32 → (rest + share) % 2 ^ 32 ≡ h → product ≡ (rest * B) % 2 ^ 32 → r ≡ (product + incoming) % 2 ^ 32 → h ≡ words_hash B (outgoing ∷ ws) → power ≡ B ^ length ws % 2 ^ 32 → r ≡ words_hash B (ws ++ (incoming ∷ []))
+pub rolled : (B : ℕ) (ws : List ℕ) (h outgoing power incoming r : ℕ) → h < 2 ^ 32 → r ≡ ((h + (2 ^ 32 - (outgoing * power) % 2 ^ 32)) % 2 ^ 32 * B + incoming) % 2 ^ 32 → h ≡ words_hash B (outgoing ∷ ws) → power ≡ B ^ length ws % 2 ^ 32 → r ≡ words_hash B (ws ++ (incoming ∷ []))
 unfolding words_hash weigh
-rolled B ws h outgoing power share rest product incoming r sh re pr su e q =
+rolled B ws h outgoing power incoming r small su e q =
     let first = outgoing * B ^ length ws in
-    let taken : Congruent (2 ^ 32) share first = congruent_trans (congruent_mod sh) (congruent_mul congruent_refl (congruent_mod q)) in
-    let whole : Congruent (2 ^ 32) (rest + share) (first + weigh B ws) = congruent_trans (congruent_sym (congruent_mod (sym re))) (congruent_mod e) in
+    let share = (outgoing * power) % 2 ^ 32 in
+    let rest = (h + (2 ^ 32 - share)) % 2 ^ 32 in
+    let taken : Congruent (2 ^ 32) share first = congruent_trans (congruent_mod refl) (congruent_mul congruent_refl (congruent_mod q)) in
+    let whole : Congruent (2 ^ 32) (rest + share) (first + weigh B ws) =
+    congruent_trans (congruent_sym (congruent_mod (sym (taken_out h share small (omega arith))))) (congruent_mod e) in
     let swapped : Congruent (2 ^ 32) (rest + first) (weigh B ws + first) =
     congruent_trans (congruent_add congruent_refl (congruent_sym taken)) (rw (add_comm (weigh B ws) first) whole) in
-    wrapped rest B incoming product r pr su ∙ sym (hash_more B ws rest incoming (congruent_cancel (2 ^ 32) first swapped))
+    su ∙ sym (hash_more B ws rest incoming (congruent_cancel (2 ^ 32) first swapped))
 
--- ---- the loop of power: p is the i-th power
-pub record Raised (B e p i : ℕ) : Type 0 where
-  pub within : i ≤ e
-  pub power : p ≡ B ^ i % 2 ^ 32
+-- ---- the loop of power: p is the i-th power, and the next turn gives the one after it
+pub power_more : (B i p : ℕ) → p ≡ B ^ i % 2 ^ 32 → (p * B) % 2 ^ 32 ≡ B ^ (i + 1) % 2 ^ 32
+power_more B i p e = rw (add-one i, pow-suc B i) (congruent_mul (congruent_mod e) congruent_refl).same
 
-pub raised_none : (B e : ℕ) → Raised B e 1 0
-raised_none B e = record { within = omega arith; power = rw (pow-zero B) refl }
+-- ---- a fold: word after word is taken into the hash
+abbrev with_word : ℕ → ℕ → ℕ → ℕ
+with_word B h w = (h * B + w) % 2 ^ 32
 
-pub raised_more : (B e p i r : ℕ) → Raised B e p i → i < e → r ≡ (p * B) % 2 ^ 32 → Raised B e r (i + 1)
-raised_more B e p i r inv h w =
-    record {
-      within = omega arith;
-      power = rw (add-one i, pow-suc B i) (w ∙ (congruent_mul (congruent_mod inv.power) congruent_refl).same);
-    }
-
-pub raised_all : (B e p i : ℕ) → Raised B e p i → e ≤ i → p ≡ B ^ e % 2 ^ 32
-raised_all B e p i inv h = let same : e ≡ i = omega (arith, inv.within) in rw same inv.power
-
--- ---- the loop of hash_of: h is the hash of the words before i
-pub record Hashed (B : ℕ) (ws : List ℕ) (h i : ℕ) : Type 0 where
-  pub within : i ≤ length ws
-  pub held : h ≡ words_hash B (take i ws)
-
-pub hashed_none : (B : ℕ) (ws : List ℕ) → Hashed B ws 0 0
+folded : (B : ℕ) (ws : List ℕ) (n : ℕ) → n ≤ length ws → fold (with_word B) 0 (take n ws) ≡ words_hash B (take n ws)
 unfolding words_hash weigh
-hashed_none B ws = record { within = omega arith; held = refl }
+folded B ws zero h = refl
+folded B ws (suc n) h =
+    rw (
+      take-suc ws n 0 (omega arith),
+      fold-append (with_word B) 0 (take n ws) (get_or ws n 0 ∷ []),
+      horner B (take n ws) (get_or ws n 0),
+      folded B ws n (omega arith),
+    )
+    refl
 
-pub hashed_more : (B : ℕ) (ws : List ℕ) (h product r i : ℕ) → Hashed B ws h i → i < length ws → product ≡ (h * B) % 2 ^ 32 → r ≡ (product + get_or ws i 0) % 2 ^ 32 → Hashed B ws r (i + 1)
-hashed_more B ws h product r i inv less p s =
-    record {
-      within = omega arith;
-      held = rw (add-one i, take-suc ws i 0 less, horner B (take i ws) (get_or ws i 0), ← inv.held) (wrapped h B (get_or ws i 0) product r p s);
-    }
-
-pub hashed_all : (B : ℕ) (ws : List ℕ) (h i : ℕ) → Hashed B ws h i → length ws ≤ i → h ≡ words_hash B ws
-hashed_all B ws h i inv all = rw (take_all i ws all) at inv.held
-
--- The same of replaced words.
-pub replaced_step : (B : ℕ) (ws : List ℕ) (h product w r i : ℕ) → Hashed B (map replaced ws) h i → i < length ws → product ≡ (h * B) % 2 ^ 32 → w ≡ replaced (get_or ws i 0) → r ≡ (product + w) % 2 ^ 32 → Hashed B (map replaced ws) r (i + 1)
-replaced_step B ws h product w r i inv less p e s =
-    hashed_more B (map replaced ws) h product r i inv (rw (length-map ws replaced) less) p (rw (get_or_replaced ws i, ← e) s)
-
-pub replaced_hash_lem : (B : ℕ) (ws : List ℕ) (h i : ℕ) → Hashed B (map replaced ws) h i → length ws ≤ i → h ≡ hash B ws
-replaced_hash_lem B ws h i inv all = hashed_all B (map replaced ws) h i inv (rw (length-map ws replaced) all)
+pub hashed : (B r : ℕ) (ws : List ℕ) → r ≡ fold (λ h w. (h * B + w) % 2 ^ 32) 0 ws → r ≡ words_hash B ws
+hashed B r ws e = let l : length ws ≤ length ws = omega arith in e ∙ (rw take_all at (folded B ws (length ws) l))

@@ -1,20 +1,18 @@
 -- The list of hashes as the code makes it, of words as they stand and of replaced words: the hashes before i stand in the buffer, and rolling
 -- the hash at i gives that at i + 1.
 -- Assumes nothing.
-use Rattle.std.proofs.Common.{◌≡◌, ℕ, zero, suc, ◌+◌, ◌-◌, ◌*◌, ◌/◌, ◌%◌, ◌^◌, ◌<◌, ◌≤◌, not, eqb, ltb, List, [], ◌∷◌, ◌++◌, map, length, get_or, take, drop, set, sym, refl, ap, ◌∙◌, add-zero, pos_of_ne-zero, add-one, arith, length-drop, length-set, take-append-drop, length-take-le, get_or-drop, drop-cons, get_or-set_other, get_or-take, take-suc, get_or-set_same, take-take, ltb-false}
-use native.Mathlib.Nat.{sub-zero, mul-div-le}
+use Rattle.std.proofs.Common.{◌≡◌, ℕ, zero, suc, ◌+◌, ◌-◌, ◌*◌, ◌/◌, ◌%◌, ◌^◌, ◌<◌, ◌≤◌, List, [], ◌∷◌, ◌++◌, map, length, get_or, take, drop, set, sym, refl, ap, ◌∙◌, add-zero, add-one, arith, length-drop, length-set, take-append-drop, length-take-le, get_or-drop, drop-cons, get_or-set_other, get_or-take, take-suc, get_or-set_same, take-take}
+use native.Mathlib.Nat.{mul-div-le}
 use native.Mathlib.Decide.{dec_lt, ℕ_discrete}
 use lib.ListN.{length-map}
 use lib.Seq.{take-set-le}
-use borrow.Author.Tests.{eqb-false}
 use Rattle.symbol.specs.Word.{replaced}
-use Rattle.symbol.specs.Sequence.{all_sound, too_long, Current}
+use Rattle.symbol.specs.Sequence.{Current}
 use Rattle.symbol.proofs.Sequence.{get_or_replaced, take_replaced, drop_replaced}
 use Rattle.buffer.specs.Buffer.{onto, tabulate}
 use Rattle.buffer.proofs.Buffer.{rest_of_front, length_tabulate, onto_more, onto_words, get_or_tabulate, tabulate_same}
 use Rattle.window.specs.Hash.{words_hash, hash}
-use Rattle.window.specs.HashList.{windows, hash_at, hashes_by, hashes, hash_refusal}
-use Rattle.symbol.proofs.Refusal.{clear}
+use Rattle.window.specs.HashList.{windows, hash_at, hashes_by, hashes}
 
 -- The hash of the words of a window as they stand.
 abbrev pub at_window : ℕ → ℕ → List ℕ → ℕ → ℕ
@@ -62,9 +60,9 @@ pub none_fits : (f : List ℕ → ℕ) (s : ℕ) (words b : List ℕ) → length
 unfolding tabulate
 none_fits f s words b h = let none : windows s (length words) ≡ 0 = omega arith in rw none refl
 
-pub filled_none : (B s : ℕ) (words b : List ℕ) (h : ℕ) → s ≤ length words → windows s (length words) ≤ length b → h ≡ words_hash B (take (s - 0) (drop 0 words)) → Filled B s words b b h 0
+pub filled_none : (B s : ℕ) (words b : List ℕ) (h : ℕ) → s ≤ length words → windows s (length words) ≤ length b → h ≡ words_hash B (take s words) → Filled B s words b b h 0
 unfolding tabulate
-filled_none B s words b h w r e = record { within = omega arith; room = r; held = refl; same = refl; current = rw (sub-zero s) at e }
+filled_none B s words b h w r e = record { within = omega arith; room = r; held = refl; same = refl; current = e }
 
 module _ (B s : ℕ) (words b₀ b : List ℕ) (h i : ℕ) (inv : Filled B s words b₀ b h i) where
   stored : set b i h ≡ onto (tabulate (at_window B s words) (suc i)) b₀
@@ -75,8 +73,8 @@ module _ (B s : ℕ) (words b₀ b : List ℕ) (h i : ℕ) (inv : Filled B s wor
       let less : length front < length b₀ = omega (arith, inv.within, inv.room) in
       rw (← onto_more front b₀ (at_window B s words i) less, inv.held, inv.current, n) refl
 
-  pub filled_all : (b₁ : List ℕ) → length words ≤ i + s → b₁ ≡ set b i h → b₁ ≡ onto (hashes_by (words_hash B) s words) b₀
-  filled_all b₁ all e = let last : windows s (length words) ≡ suc i = omega (arith, inv.within) in e ∙ rw last stored
+  pub filled_all : length words ≤ i + s → set b i h ≡ onto (hashes_by (words_hash B) s words) b₀
+  filled_all all = let last : windows s (length words) ≡ suc i = omega (arith, inv.within) in rw last stored
 
   pub filled_more : (p r : ℕ) → 1 ≤ s → p ≡ B ^ (s - 1) % 2 ^ 32 → i + s < length words → Rolls B p h (get_or words i 0) (get_or words (i + s) 0) r → Filled B s words b₀ (set b i h) r (i + 1)
   filled_more p r least q less roll =
@@ -99,18 +97,20 @@ hashes_are B s words = rw (length-map words replaced) (tabulate_same (at_window 
 pub hash_current : (B s : ℕ) (words : List ℕ) → Current words → (i : ℕ) → at_window B s words i ≡ hash_at B s words i
 hash_current B s words c i = ap (λ ws. at_window B s ws i) (sym c) ∙ hash_at_lem B s words i
 
-pub replaced_fits : (B s : ℕ) (words b : List ℕ) (h : ℕ) → s ≤ length words → windows s (length words) ≤ length b → h ≡ hash B (take (s - 0) (drop 0 words)) → Filled B s (map replaced words) b b h 0
+pub replaced_fits : (B s : ℕ) (words b : List ℕ) (h : ℕ) → s ≤ length words → windows s (length words) ≤ length b → h ≡ hash B (take s words) → Filled B s (map replaced words) b b h 0
 replaced_fits B s words b h w r e =
-    filled_none B s (map replaced words) b h (rw (length-map words replaced) w) (rw (length-map words replaced) r) (rw (take_replaced (s - 0) words) e)
+    filled_none B s (map replaced words) b h (rw (length-map words replaced) w) (rw (length-map words replaced) r) (rw (take_replaced s words) e)
 
 module _ (B s : ℕ) (words b₀ b : List ℕ) (h i : ℕ) (inv : Filled B s (map replaced words) b₀ b h i) where
-  pub replaced_more : (p outgoing incoming r : ℕ) → 1 ≤ s → p ≡ B ^ (s - 1) % 2 ^ 32 → i + s < length words → outgoing ≡ replaced (get_or words i 0) → incoming ≡ replaced (get_or words (i + s) 0) → Rolls B p h outgoing incoming r → Filled B s (map replaced words) b₀ (set b i h) r (i + 1)
+  pub replaced_more : (p outgoing incoming r : ℕ) → 1 ≤ s → p ≡ B ^ (s - 1) % 2 ^ 32 → i < length words - s → outgoing ≡ replaced (get_or words i 0) → incoming ≡ replaced (get_or words (i + s) 0) → Rolls B p h outgoing incoming r → Filled B s (map replaced words) b₀ (set b i h) r (i + 1)
   replaced_more p outgoing incoming r least q less x y roll =
-      filled_more B s (map replaced words) b₀ b h i inv p r least q (rw (length-map words replaced) less)
+      filled_more B s (map replaced words) b₀ b h i inv p r least q (omega (arith, length-map words replaced))
       (rw (get_or_replaced words i, get_or_replaced words (i + s), ← x, ← y) roll)
 
-  pub replaced_all : (b₁ : List ℕ) → length words ≤ i + s → b₁ ≡ set b i h → b₁ ≡ onto (hashes B s words) b₀
-  replaced_all b₁ all e = rw (← hashes_are B s words) (filled_all B s (map replaced words) b₀ b h i inv b₁ (rw (length-map words replaced) all) e)
+  pub replaced_all : length words - s ≤ i → set b (length words - s) h ≡ onto (hashes B s words) b₀
+  replaced_all all =
+      let last : length words - s ≡ i = omega (arith, inv.within, length-map words replaced) in
+      rw (last, ← hashes_are B s words) (filled_all B s (map replaced words) b₀ b h i inv (omega (arith, length-map words replaced)))
 
 -- ---- the loop of hash_windows: the words are the first of a part of the workspace, and the hashes stand
 -- `distance` words on. Two hashes are rolled side by side, from the first
@@ -137,7 +137,7 @@ slice_hash : (B s count at : ℕ) (ws : List ℕ) → at + s ≤ count → words
 slice_hash B s count at ws fits =
     ap (words_hash B) (sym (take-take s (count - at) (drop at ws) (omega arith)) ∙ ap (take s) (rest_of_front at count ws))
 
-pub beside_none : (B s count distance half : ℕ) (ws : List ℕ) (near far : ℕ) → 1 ≤ s → s ≤ count → half ≡ (count + 1 - s) / 2 → near ≡ words_hash B (take (s - 0) (drop 0 ws)) → far ≡ words_hash B (take (half + s - half) (drop half ws)) → Beside B s count distance half ws ws near far 0
+pub beside_none : (B s count distance half : ℕ) (ws : List ℕ) (near far : ℕ) → 1 ≤ s → s ≤ count → half ≡ (count + 1 - s) / 2 → near ≡ words_hash B (take s ws) → far ≡ words_hash B (take (half + s - half) (drop half ws)) → Beside B s count distance half ws ws near far 0
 beside_none B s count distance half ws near far least fits middle e d =
     let most : 2 * half ≤ count + 1 - s = halves (count + 1 - s) half middle in
     let width : half + s - half ≡ s = omega arith in
@@ -145,7 +145,7 @@ beside_none B s count distance half ws near far least fits middle e d =
       within = omega arith;
       same = refl;
       front = refl;
-      first = rw (sub-zero s) at e ∙ slice_hash B s count 0 ws (omega arith);
+      first = e ∙ slice_hash B s count 0 ws (omega arith);
       second = rw (add-zero half) (rw width at d ∙ slice_hash B s count half ws (omega arith));
       before = λ k l. absurd (omega arith);
       behind = λ k h l. absurd (omega arith);
@@ -220,7 +220,7 @@ module _ (B s count distance half : ℕ) (ws₀ ws : List ℕ) (near far i : ℕ
   both_same : length twice ≡ length ws₀
   both_same = length-set once (distance + (half + i)) far ∙ (length-set ws (distance + i) near ∙ inv.same)
 
-  pub beside_more : (p near' far' : ℕ) → p ≡ B ^ (s - 1) % 2 ^ 32 → half + i + s < count → Rolls B p near (get_or ws i 0) (get_or ws (i + s) 0) near' → Rolls B p far (get_or ws (half + i) 0) (get_or ws (half + i + s) 0) far' → Beside B s count distance half ws₀ twice near' far' (i + 1)
+  pub beside_more : (p near' far' : ℕ) → p ≡ B ^ (s - 1) % 2 ^ 32 → i < count - s - half → Rolls B p near (get_or ws i 0) (get_or ws (i + s) 0) near' → Rolls B p far (get_or ws (half + i) 0) (get_or ws (half + i + s) 0) far' → Beside B s count distance half ws₀ twice near' far' (i + 1)
   beside_more p near' far' q less rolls rolls' =
       let on : half + (i + 1) ≡ half + i + 1 = omega arith in
       record {
@@ -228,22 +228,22 @@ module _ (B s count distance half : ℕ) (ws₀ ws : List ℕ) (near far i : ℕ
         same = both_same;
         front = both_front;
         first = hash_next B s (take count ws₀) p near near' i least q (omega (arith, words_are)) inv.first (rw (word_at_lem i (omega arith), word_at_lem (i + s) (omega arith)) at rolls);
-        second = rw on (hash_next B s (take count ws₀) p far far' (half + i) least q (omega (arith, words_are)) inv.second (rw (word_at_lem (half + i) (omega arith), word_at_lem (half + i + s) less) at rolls'));
+        second = rw on (hash_next B s (take count ws₀) p far far' (half + i) least q (omega (arith, words_are)) inv.second (rw (word_at_lem (half + i) (omega arith), word_at_lem (half + i + s) (omega arith)) at rolls'));
         before = both_before;
         behind = both_behind;
         kept = both_kept;
       }
 
-  pub beside_all : (ws₁ ws₂ : List ℕ) → half ≡ (count + 1 - s) / 2 → count ≤ half + i + s → ws₁ ≡ set ws (distance + i) near → ws₂ ≡ set ws₁ (distance + (half + i)) far → ws₂ ≡ take distance ws₀ ++ onto (hashes_by (words_hash B) s (take count ws₀)) (drop distance ws₀)
-  beside_all ws₁ ws₂ middle all e d =
-      let made : ws₂ ≡ twice = d ∙ ap (λ xs. set xs (distance + (half + i)) far) e in
+  pub beside_all : half ≡ (count + 1 - s) / 2 → count - s - half ≤ i → set (set ws (distance + (count - s - half)) near) (distance + (half + (count - s - half))) far ≡ take distance ws₀ ++ onto (hashes_by (words_hash B) s (take count ws₀)) (drop distance ws₀)
+  beside_all middle all =
+      let last : count - s - half ≡ i = omega (arith, inv.within) in
       let back : drop distance twice ≡ onto (hashes_by (words_hash B) s (take count ws₀)) (drop distance ws₀) =
       onto_words (hashes_by (words_hash B) s (take count ws₀)) (drop distance ws₀) (drop distance twice)
       (omega (arith, many, words_are, length-drop distance ws₀))
       (length-drop distance twice ∙ (ap (λ n. n - distance) both_same ∙ sym (length-drop distance ws₀)))
       (λ k l. get_or-drop distance twice k 0 ∙ (all_stand k (omega (arith, l, many, words_are)) ∙ sym (get_or_hashes B s (take count ws₀) k (omega (arith, l, many, words_are)))))
       (λ k l. get_or-drop distance twice k 0 ∙ (both_kept k (omega (arith, l, many, words_are)) ∙ sym (get_or-drop distance ws₀ k 0))) in
-      made ∙ (sym (take-append-drop distance twice) ∙ rw (both_front, back) refl)
+      rw last (sym (take-append-drop distance twice) ∙ rw (both_front, back) refl)
     where
       many : length (hashes_by (words_hash B) s (take count ws₀)) ≡ windows s (length (take count ws₀))
       many = length_hashes B s (take count ws₀)
@@ -254,24 +254,3 @@ module _ (B s count distance half : ℕ) (ws₀ ws : List ℕ) (near far i : ℕ
           go : Dec (k < i + 1) → Stands B s count distance ws₀ twice k
           go (yes l) = both_before k l
           go (no l) = both_behind k (omega (arith, l, halves (count + 1 - s) half middle)) (omega (arith, l))
-
--- ---- what an accepted call has
-pub record Accepted (words : List ℕ) (s room : ℕ) : Type 0 where
-  pub short : length words ≤ 2048
-  pub least : 1 ≤ s
-  pub most : s ≤ 2048
-  pub fits : windows s (length words) ≤ room
-
-pub accepted : (words : List ℕ) (s room r : ℕ) → r ≡ hash_refusal words s room → r ≡ 0 → Accepted words s room
-accepted words s room r e z =
-    let long = clear (too_long words) 1 _ (omega arith) (sym e ∙ z) in
-    let unsound = clear (not (all_sound words)) 2 _ (omega arith) long.rest in
-    let none = clear (eqb s 0) 5 _ (omega arith) unsound.rest in
-    let wide = clear (ltb 2048 s) 5 _ (omega arith) none.rest in
-    let tight = clear (ltb room (windows s (length words))) 11 0 (omega arith) wide.rest in
-    record {
-      short = ltb-false _ _ long.first;
-      least = pos_of_ne-zero (eqb-false s 0 none.first);
-      most = ltb-false _ _ wide.first;
-      fits = ltb-false _ _ tight.first;
-    }

@@ -1,8 +1,8 @@
 -- The list of the hashes of a sequence's windows, and what asking for it gives for any words and any buffer.
 use Rattle.std.specs.Prelude.{ℕ, suc, ◌-◌, not, List, length, take, drop, ◌==◌, nat_lt}
 use Rattle.symbol.specs.Sequence.{all_sound, too_long}
-use Rattle.symbol.specs.Refusal.{refuse, outcome, counted}
-use Rattle.symbol.specs.declared.Counted.{Counted}
+use Rattle.refusal.specs.Refusal.{refuse, outcome, counted}
+use Rattle.refusal.specs.declared.Counted.{Counted}
 use Rattle.buffer.specs.Buffer.{onto, tabulate}
 use Rattle.window.specs.Hash.{hash}
 

@@ -1,12 +1,7 @@
--- `bounds::greatest` meets its contract: at the head of each turn `most` is the greatest of the words before i.
+-- `bounds::greatest` meets its contract: at the head of each turn `most` is the greatest of the words before this one.
 -- Assumes nothing.
-use Prim.Native.Nat.{◌-◌}
-use lib.ListN.{length}
 use Rattle.bounds.proofs.Most.{Seen}
 use Rattle.bounds.proofs.greatest.Given as goal
 
-abbrev pub invariant-loop-i : goal.invariant-loop-i
-invariant-loop-i l = Seen l.words l.i l.most
-
-abbrev pub decreases-loop-i : goal.decreases-loop-i
-decreases-loop-i l = length l.words - l.i
+abbrev pub invariant-loop-word : goal.invariant-loop-word
+invariant-loop-word l = Seen l.words l.word-index l.most

@@ -1,12 +1,9 @@
 -- `bounds::next_block` meets its contract: at the head of each turn the blocks up to b are below the level.
 -- Assumes nothing.
-use Prim.Native.Nat.{◌-◌, ◌≤◌}
+use Prim.Native.Nat.{◌≤◌}
 use lib.ListN.{get_or}
 use Rattle.chain.specs.First.{Passing}
 use Rattle.bounds.proofs.next_block.Given as goal
 
 abbrev pub invariant-loop-b : goal.invariant-loop-b
-invariant-loop-b l = Passing (λ c. l.level ≤ get_or l.blocks c 0) l.initial.b l.count l.b
-
-abbrev pub decreases-loop-b : goal.decreases-loop-b
-decreases-loop-b l = l.count - l.b
+invariant-loop-b l = Passing (λ c. l.level ≤ get_or l.blocks c 0) l.fn.from l.count l.b

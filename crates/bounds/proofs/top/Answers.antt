@@ -5,5 +5,4 @@ use borrow.Author.Rules.{rules}
 use Rattle.bounds.proofs.top.Goals as goal
 
 pub returns : goal.returns
-returns c = let a = c.args in
-    top_part a.job a.blocks.now c.block_count-count.result _ _ (search rules) (search rules) (search rules) c.greatest.ensures c.wide.ensures
+returns c = let a = c.args in top_part a.job a.blocks.now c.block_count-count.result _ (search rules) (search rules) (search rules) c.greatest.ensures

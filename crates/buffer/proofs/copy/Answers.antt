@@ -1,4 +1,4 @@
--- `buffer::copy` meets its contract: after i turns the first i words stand at the start of the buffer, and the rest is as it was.
+-- `buffer::copy` meets its contract: at the head of each turn the first i words stand in the buffer, and what follows them is as it was.
 -- Assumes nothing.
 use Rattle.buffer.proofs.Buffer.{copied_none, copied_more, copied_all}
 use Rattle.buffer.proofs.copy.Goals as goal

@@ -1,11 +1,9 @@
--- `chain::lead_blocks` meets its contract: after i turns the first words of i blocks lead out.
+-- `chain::lead_blocks` meets its contract: at the head of each turn the first words of the blocks up to this one lead out.
 -- Assumes nothing.
-use Prim.Native.Nat.{◌-◌}
-use Rattle.chain.proofs.Unlinking.{Leading}
+use Prim.Native.Nat.{◌-◌, ◌/◌}
+use mathlib.Core.Path.{◌≡◌}
+use Rattle.chain.specs.Unlinked.{led}
 use Rattle.chain.proofs.lead_blocks.Given as goal
 
-abbrev pub invariant-loop-i : goal.invariant-loop-i
-invariant-loop-i l = Leading l.before l.next l.first l.count l.initial.chain l.chain l.i
-
-abbrev pub decreases-loop-i : goal.decreases-loop-i
-decreases-loop-i l = l.count - l.i
+abbrev pub invariant-loop-block : goal.invariant-loop-block
+invariant-loop-block l = l.chain ≡ led l.before l.next (l.at / 32) (l.block - l.at / 32) l.initial.chain

@@ -1,13 +1,10 @@
--- `chain::zeros_from` meets its contract: at the head of each turn all words from n on are 0. The loop ends at a word that is not, or with the first.
+-- `chain::zeros_from` meets its contract: all words are 0 past the last other word before the blocks that are 0.
 -- Assumes nothing.
-use Rattle.chain.proofs.Stretches.{tail_word, zeros_stop, zeros_all}
+use Rattle.chain.proofs.Stretches.{zeros_past, zeros_all}
 use Rattle.chain.proofs.zeros_from.Goals as goal
 
-pub loop-n-preserved : goal.loop-n-preserved
-loop-n-preserved c = search tail_word
+pub returns-in-Some : goal.returns-in-Some
+returns-in-Some c = let e = c.in-Some.ensures in zeros_past c.args.words.now c.zero_blocks-n.result c.zero_blocks-n.ensures c.in-Some.i e.0 e.1 e.2
 
-pub returns-else-words-n-eq0 : goal.returns-else-words-n-eq0
-returns-else-words-n-eq0 c = search zeros_stop
-
-pub returns-after-loop-n : goal.returns-after-loop-n
-returns-after-loop-n c = search zeros_all
+pub returns-in-None : goal.returns-in-None
+returns-in-None c = zeros_all c.args.words.now c.zero_blocks-n.result c.zero_blocks-n.ensures c.in-None.ensures

@@ -1,16 +1,16 @@
--- `cover::fill` meets its contract: the entries from the loop's minimum on stand in the buffer.
+-- `cover::fill` meets its contract: the entries from k on stand in the buffer, where the turn fills entry k - 1.
 -- Assumes nothing.
-use Rattle.cover.proofs.Entries.{entered_none, entered_room, entered_more, entered_all}
+use Rattle.cover.proofs.Entries.{entered_none, entered_walk, entered_more, entered_all}
 use Rattle.cover.proofs.fill.Goals as goal
 
-pub loop-minimum-init : goal.loop-minimum-init
-loop-minimum-init c = search entered_none
+pub loop-k-init : goal.loop-k-init
+loop-k-init c = search entered_none
 
-pub put-requires : goal.put-requires
-put-requires c = search entered_room
+pub pass_long-walk-requires-clause-walked : goal.pass_long-walk-requires-clause-walked
+pass_long-walk-requires-clause-walked c = search entered_walk
 
-pub loop-minimum-preserved : goal.loop-minimum-preserved
-loop-minimum-preserved c = search entered_more
+pub loop-k-preserved : goal.loop-k-preserved
+loop-k-preserved c = search entered_more
 
 pub returns : goal.returns
 returns c = search entered_all

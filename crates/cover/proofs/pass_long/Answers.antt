@@ -1,17 +1,19 @@
--- `cover::pass_long` meets its contract: the walk goes on while the next tile is long enough.
+-- `cover::pass_long` meets its contract: the tiles before `passed` are passed, and the walk stops at the first that is too short.
 -- Assumes nothing.
-use Rattle.cover.proofs.Walking.{passing_small, passing_more, passing_stopped, passing_ended}
-use borrow.Author.Tests.{leb-true, leb-false}
+use Rattle.cover.proofs.Walking.{passing_small, passing_more, passing_stopped, passing_through, passing_ended}
 use Rattle.cover.proofs.pass_long.Goals as goal
 
-pub overflow_add-words-in-loop-passed : goal.overflow_add-words-in-loop-passed
-overflow_add-words-in-loop-passed c = search passing_small
+pub overflow_add-words : goal.overflow_add-words
+overflow_add-words c = search passing_small
 
 pub loop-passed-preserved : goal.loop-passed-preserved
-loop-passed-preserved c = search (passing_more, leb-true)
+loop-passed-preserved c = search passing_more
 
-pub returns-else-least-tiles-clause-words_covered : goal.returns-else-least-tiles-clause-words_covered
-returns-else-least-tiles-clause-words_covered c = search (passing_stopped, leb-false)
+pub returns-then-len-least-clause-words_covered : goal.returns-then-len-least-clause-words_covered
+returns-then-len-least-clause-words_covered c = search passing_stopped
 
-pub returns-after-loop-passed-clause-words_covered : goal.returns-after-loop-passed-clause-words_covered
-returns-after-loop-passed-clause-words_covered c = search passing_ended
+pub returns-clause-walked_on : goal.returns-clause-walked_on
+returns-clause-walked_on c = search passing_through
+
+pub returns-clause-words_covered : goal.returns-clause-words_covered
+returns-clause-words_covered c = search passing_ended

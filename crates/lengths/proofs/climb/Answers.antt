@@ -3,8 +3,8 @@
 use Rattle.lengths.proofs.Choice.{climbing_none, climbing_found, climbing_over, climbing_room, climbing_more, climbing_done}
 use Rattle.lengths.proofs.climb.Goals as goal
 
-pub loop-i-init : goal.loop-i-init
-loop-i-init c = search climbing_none
+pub loop-init : goal.loop-init
+loop-init c = search climbing_none
 
 pub returns-then-now-ge44 : goal.returns-then-now-ge44
 returns-then-now-ge44 c = search climbing_found
@@ -15,8 +15,8 @@ returns-then-now-before c = search climbing_over
 pub overflow_mul-length : goal.overflow_mul-length
 overflow_mul-length c = search climbing_room
 
-pub loop-i-preserved : goal.loop-i-preserved
-loop-i-preserved c = search climbing_more
+pub loop-preserved : goal.loop-preserved
+loop-preserved c = search climbing_more
 
 pub returns : goal.returns
 returns c = search climbing_done

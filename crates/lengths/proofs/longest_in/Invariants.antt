@@ -5,6 +5,3 @@ use Rattle.lengths.proofs.longest_in.Given as goal
 
 abbrev pub invariant-loop-i : goal.invariant-loop-i
 invariant-loop-i l = Stretching l.words l.from l.i l.free l.most
-
-abbrev pub decreases-loop-i : goal.decreases-loop-i
-decreases-loop-i l = l.i

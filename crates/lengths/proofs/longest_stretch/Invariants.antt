@@ -6,7 +6,7 @@ use Rattle.bounds.specs.Workspace.{state}
 use Rattle.lengths.proofs.longest_stretch.Given as goal
 
 abbrev pub invariant-loop-part : goal.invariant-loop-part
-invariant-loop-part l = Longest (state l.job l.ws).pattern l.most l.part.from.0 l.part.to.0
+invariant-loop-part l = Longest (state l.view.job l.view.words.now).pattern l.most l.part.from.0 l.part.to.0
 
 abbrev pub decreases-loop-part : goal.decreases-loop-part
 decreases-loop-part l = l.part.to.0

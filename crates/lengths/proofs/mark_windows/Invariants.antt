@@ -5,6 +5,3 @@ use Rattle.lengths.proofs.mark_windows.Given as goal
 
 abbrev pub invariant-loop-i : goal.invariant-loop-i
 invariant-loop-i l = Marking l.words l.b l.s l.step l.marked l.i
-
-abbrev pub decreases-loop-i : goal.decreases-loop-i
-decreases-loop-i l = l.i

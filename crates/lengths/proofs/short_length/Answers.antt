@@ -3,8 +3,8 @@
 use Rattle.lengths.proofs.Choice.{trying_none, trying_found, trying_room, trying_more, trying_done}
 use Rattle.lengths.proofs.short_length.Goals as goal
 
-pub loop-i-init : goal.loop-i-init
-loop-i-init c = search trying_none
+pub loop-init : goal.loop-init
+loop-init c = search trying_none
 
 pub returns-then-pays : goal.returns-then-pays
 returns-then-pays c = search trying_found
@@ -12,8 +12,8 @@ returns-then-pays c = search trying_found
 pub overflow_mul-length : goal.overflow_mul-length
 overflow_mul-length c = search trying_room
 
-pub loop-i-preserved : goal.loop-i-preserved
-loop-i-preserved c = search trying_more
+pub loop-preserved : goal.loop-preserved
+loop-preserved c = search trying_more
 
 pub returns : goal.returns
 returns c = search trying_done

@@ -4,4 +4,4 @@ use Rattle.bounds.proofs.Blocks.{covering_after}
 use Rattle.levels.proofs.step.Goals as goal
 
 pub returns-clause-covering : goal.returns-clause-covering
-returns-clause-covering c = search covering_after
+returns-clause-covering g c = search covering_after

@@ -1,29 +1,19 @@
--- `levels::visit` meets its contract: no run of the row exceeds its bound, so it is searched as settling asks; and a lower bound takes nothing from the index.
+-- `levels::visit` meets its contract: the row is searched as settling asks, a shorter run is its new bound, and neither takes from the engine's
+-- tables what they hold.
 -- Assumes nothing.
-use Rattle.levels.proofs.Pass.{row_upper, row_small, row_lowered, row_onward, row_falls, row_kept, row_own, row_level, row_found, row_after}
-use borrow.Author.Rules.{rules}
+use Rattle.levels.proofs.Keep.{kept_set, kept_laid}
+use Rattle.levels.proofs.Row.{sweeping_lowered, sweeping_onward}
 use Rattle.levels.proofs.visit.Goals as goal
 
-pub find-found-requires : goal.find-found-requires
-find-found-requires c = (search rules, search rules, search rules, search rules, search rules, search row_upper)
-
-pub set_bound-requires : goal.set_bound-requires
-set_bound-requires c = (search rules, search rules, search row_small)
-
 pub returns-then-found-level-clause-sweeping : goal.returns-then-found-level-clause-sweeping
-returns-then-found-level-clause-sweeping c = search row_lowered
+returns-then-found-level-clause-sweeping g c = search sweeping_lowered
 
 pub returns-then-found-level-clause-onward : goal.returns-then-found-level-clause-onward
-returns-then-found-level-clause-onward c = search row_onward
+returns-then-found-level-clause-onward g c = search sweeping_onward
 
-pub returns-then-found-level-clause-falling : goal.returns-then-found-level-clause-falling
-returns-then-found-level-clause-falling c = search row_falls
+pub returns-then-found-level-clause-serves : goal.returns-then-found-level-clause-serves
+returns-then-found-level-clause-serves g c = g.met.E.Engine.kept _ _ _ _ (search kept_set) c.find-found.ensures.serves
 
-pub returns-then-found-level-clause-indexed : goal.returns-then-found-level-clause-indexed
-returns-then-found-level-clause-indexed c = search row_kept
-
-pub lay_row-requires : goal.lay_row-requires
-lay_row-requires c = (search row_own, search rules, search rules, search rules, search row_level, search row_found)
-
-pub returns-clause-sweeping : goal.returns-clause-sweeping
-returns-clause-sweeping c = search row_after
+pub returns-clause-serves : goal.returns-clause-serves
+returns-clause-serves g c = let e = c.settle.ensures in
+    g.met.E.Engine.kept _ _ _ _ (kept_laid _ _ _ _ _ _ e.level_bound.0 e.level_bound.1 c.requires.0.fits.space.roomy e.ws_after) c.find-found.ensures.serves

@@ -1,4 +1,4 @@
--- `merge::merge_words` meets its contract: after i turns the first i merged words stand at the start of the buffer, and the rest is as it was.
+-- `merge::merge_words` meets its contract: before turn i the first i merged words stand at the start of the buffer, and the rest is as it was.
 -- Assumes nothing.
 use Rattle.merge.proofs.Merging.{merging_none, merging_more, merging_all}
 use Rattle.merge.proofs.merge_words.Goals as goal

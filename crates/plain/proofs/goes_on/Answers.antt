@@ -3,8 +3,8 @@
 use Rattle.plain.proofs.Fill.{goes_not, goes_by}
 use Rattle.plain.proofs.goes_on.Goals as goal
 
-pub returns-then-job-before : goal.returns-then-job-before
-returns-then-job-before c = search goes_not
+pub returns-then-view-before : goal.returns-then-view-before
+returns-then-view-before c = search goes_not
 
 pub returns : goal.returns
 returns c = search goes_by

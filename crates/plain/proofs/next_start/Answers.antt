@@ -1,7 +1,7 @@
 -- `plain::next_start` meets its contract: the chain is entered after the positions that the run tells of, or at the end of the text.
 -- Assumes nothing.
 use native.Mathlib.Omega.{arith}
-use Rattle.plain.proofs.Scan.{passed_small, start_from}
+use Rattle.plain.proofs.Seen.{passed_small, start_from}
 use borrow.Author.Rules.{rules}
 use Rattle.plain.proofs.next_start.Goals as goal
 

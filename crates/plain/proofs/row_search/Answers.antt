@@ -1,9 +1,9 @@
 -- `plain::row_search` meets its contract: at the head of each turn what was found is the longest of the runs before t, or the floor. No longer run
 -- begins at a position that is passed over, nor where too few words are left.
 -- Assumes nothing.
-use borrow.Author.Tests.{ltb-true, ltb-false}
+use borrow.Author.Tests.{ltb-true}
 use Rattle.sweep.proofs.Row.{better_least}
-use Rattle.plain.proofs.Scan.{seen_none, seen_more, start_less, counted_small, seen_last, seen_pattern, seen_text}
+use Rattle.plain.proofs.Seen.{seen_none, seen_more, start_less, counted_small, seen_last, seen_pattern, seen_text}
 use borrow.Author.Rules.{rules}
 use Rattle.plain.proofs.row_search.Goals as goal
 
@@ -26,7 +26,7 @@ pub loop-found-preserved : goal.loop-found-preserved
 loop-found-preserved c = (search seen_more, search better_least, search rules)
 
 pub returns-else-t-found : goal.returns-else-t-found
-returns-else-t-found c = search (seen_text, ltb-false)
+returns-else-t-found c = search seen_text
 
 pub returns-after-loop-found : goal.returns-after-loop-found
 returns-after-loop-found c = search seen_pattern

@@ -4,7 +4,7 @@
 use Prim.Native.Nat.{◌-◌, ◌≤◌}
 use lib.ListN.{length}
 use Rattle.chain.specs.Chain.{Chained}
-use Rattle.plain.proofs.Scan.{Seen}
+use Rattle.plain.proofs.Seen.{Seen}
 use Rattle.plain.proofs.row_search.Given as goal
 
 abbrev pub invariant-loop-found : goal.invariant-loop-found

@@ -1,6 +1,6 @@
 -- `plain::search_row` meets its contract: the parts are what is left of the pattern, cut after cap words, and the text with its chain.
 -- Assumes nothing.
-use Rattle.plain.proofs.View.{row_of_parts, pattern_part, pattern_short, text_part, chain_part}
+use Rattle.plain.proofs.Parts.{row_of_parts, pattern_part, pattern_short, text_part, chain_part}
 use borrow.Author.Rules.{rules}
 use Rattle.plain.proofs.search_row.Goals as goal
 

@@ -1,13 +1,10 @@
 -- `report::compare` meets its contract: an accepted comparison's tiles are printed, and otherwise the refusal's number.
 -- Assumes nothing.
-use Rattle.report.proofs.Engine.{laid_there, compared_accepted, compared_refused}
+use Rattle.report.proofs.Engine.{compared_accepted, compared_refused}
 use Rattle.report.proofs.compare.Goals as goal
 
-pub returns-then-answer-ne0 : goal.returns-then-answer-ne0
-returns-then-answer-ne0 c = search compared_refused
+pub returns-in-Err : goal.returns-in-Err
+returns-in-Err c = compared_refused _ _ _ _ _ _ _ _ _ c.in-Err.refusal c.in-Err.ensures c.refused_line.ensures
 
-pub pair_lines-requires-clause-laid : goal.pair_lines-requires-clause-laid
-pair_lines-requires-clause-laid c = search laid_there
-
-pub returns : goal.returns
-returns c = search compared_accepted
+pub returns-in-Ok : goal.returns-in-Ok
+returns-in-Ok c = compared_accepted _ _ _ _ _ _ _ _ _ c.in-Ok.sum c.in-Ok.ensures c.pair_lines.ensures

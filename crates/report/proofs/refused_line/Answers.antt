@@ -6,4 +6,4 @@ use Rattle.report.proofs.refused_line.Goals as goal
 
 pub returns : goal.returns
 unfolding ascii
-returns c = search refused_written
+returns c = rw (← c.from.ensures) (refused_written _ _ _ _ c.line.ensures)

@@ -1,16 +1,25 @@
--- `report::tile_lines` meets its contract: after i turns the lines of the first i tiles are written.
+-- `report::tile_lines` meets its contract: the lines of the tiles that were taken are written, and the others are left.
 -- Assumes nothing.
-use Rattle.report.proofs.Tiles.{printed_none, printed_more, printed_all, line_room, first_start, second_start}
+use Rattle.std.proofs.Common.{ap, ◌∙◌}
+use Rattle.report.proofs.Tiles.{lining_none, lining_room, lining_first, lining_second, lining_more, lining_all}
 use Rattle.report.proofs.tile_lines.Goals as goal
 
-pub loop-i-init : goal.loop-i-init
-loop-i-init c = search printed_none
+pub loop-tile-init : goal.loop-tile-init
+loop-tile-init c =
+    let e = c.into_iter-tile-iterator.ensures.into_iter_gives in
+    let d = c.chunks_exact-tile-items.ensures in
+    lining_none _ _ _ _ _ _ c.requires.1 c.requires.2 c.requires.0 (ap (λ x. x.rest.now) e ∙ d.rest) (ap (λ x. x.size) e ∙ d.size)
 
 pub tile_line-end-requires : goal.tile_line-end-requires
-tile_line-end-requires c = (search line_room, search first_start, search second_start)
+tile_line-end-requires c =
+    let s = c.in-Some.ensures.steps.1 in
+    let r = c.loop-tile.invariant in
+    (lining_room _ _ _ _ _ _ _ _ _ r _ _ s.0 s.1, lining_first _ _ _ _ _ _ _ _ _ r _ _ s.0 s.1, lining_second _ _ _ _ _ _ _ _ _ r _ _ s.0 s.1)
 
-pub loop-i-preserved : goal.loop-i-preserved
-loop-i-preserved c = search printed_more
+pub loop-tile-preserved : goal.loop-tile-preserved
+loop-tile-preserved c =
+    let s = c.in-Some.ensures.steps in
+    lining_more _ _ _ _ _ _ _ _ _ c.loop-tile.invariant _ _ s.1.0 s.1.1 _ _ c.tile_line-end.ensures c.tile_line-end.auto.out _ s.0 _
 
 pub returns : goal.returns
-returns c = search printed_all
+returns c = lining_all _ _ _ _ _ _ _ _ _ c.loop-tile.invariant c.in-None.ensures.steps.1.0

@@ -3,7 +3,6 @@
 use native.Mathlib.Omega.{arith}
 use Rattle.sweep.proofs.Passed.{passed_most}
 use Rattle.rows.proofs.Pairs.{after_is}
-use borrow.Author.Rules.{rules}
 use Rattle.rows.proofs.after_run.Goals as goal
 
 pub overflow_add-result-2 : goal.overflow_add-result-2

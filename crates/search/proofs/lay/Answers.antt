@@ -1,14 +1,13 @@
 -- `search::lay` meets its contract: what was laid when nothing more is to be laid are the first tiles of the listing.
 -- Assumes nothing.
 use Rattle.ends.proofs.Ending.{begun, ended}
-use Rattle.search.proofs.Accepted.{first_pass}
 use Rattle.search.proofs.lay.Goals as goal
 
 pub tile_all-requires : goal.tile_all-requires
-tile_all-requires c = (search begun, search first_pass)
+tile_all-requires c = search begun
 
 pub returns : goal.returns
 returns c = let opened = c.open-job.ensures in
     let none = c.unlaid.ensures in
     let laid = c.tile_all.ensures in
-    ended _ _ _ _ _ _ c.requires.comparable c.requires.room _ _ opened _ none _ _ _ laid
+    ended _ _ _ _ _ _ c.args.search.pair.comparable c.requires _ _ opened _ none _ _ _ laid

@@ -1,18 +1,15 @@
--- `stretch::free_first` meets its contract: at the head of each turn the words seen so far are free, from the first on.
+-- `stretch::free_first` meets its contract: the words that pass the test are counted from the first on.
 -- Assumes nothing.
-use borrow.Author.Tests.{eqb-true, eqb-false, not-true, not-false}
-use Rattle.stretch.proofs.Sides.{seen_none, seen_more, first_all, first_marked}
-use borrow.Author.Rules.{rules}
+use Rattle.std.proofs.Common.{rules, tests}
+use Rattle.std.proofs.lemmas.Iterator.{YieldsList-from_slice}
+use Rattle.std.proofs.lemmas.Iterator.Consumers.{count_from_yields_List, YieldsList-at}
+use Rattle.std.proofs.lemmas.Iterator.Search.{YieldsList-from_take_while}
+use Rattle.stretch.proofs.Sides.{free_word, first_count}
 use Rattle.stretch.proofs.free_first.Goals as goal
 
-pub loop-i-init : goal.loop-i-init
-loop-i-init c = search (seen_none, rules)
-
-pub loop-i-preserved : goal.loop-i-preserved
-loop-i-preserved c = search (seen_more, eqb-false, not-true)
-
-pub returns-else-words-i-ne0 : goal.returns-else-words-i-ne0
-returns-else-words-i-ne0 c = search (first_marked, eqb-true, not-false)
-
-pub returns-after-loop-i : goal.returns-after-loop-i
-returns-after-loop-i c = search first_all
+pub returns : goal.returns
+returns c =
+    let source = YieldsList-at c.take_while.ensures.source (YieldsList-from_slice _ c.iter.ensures.rest) in
+    first_count c.args.words.now c.args.most c.min-n.result c.count.result c.min-n.ensures
+    (count_from_yields_List _ _ c.count.ensures.ran
+    (YieldsList-from_take_while _ free_word source c.take_while.ensures.closure c.take_while.ensures.done (λ x b q k. search (rules, tests))))

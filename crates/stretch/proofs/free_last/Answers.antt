@@ -1,18 +1,15 @@
--- `stretch::free_last` meets its contract: at the head of each turn the words seen so far are free, from the last on.
+-- `stretch::free_last` meets its contract: the words that pass the test are counted from the last on.
 -- Assumes nothing.
-use borrow.Author.Tests.{eqb-true, eqb-false, not-true, not-false}
-use Rattle.stretch.proofs.Sides.{seen_none, seen_more, last_all, last_marked}
-use borrow.Author.Rules.{rules}
+use Rattle.std.proofs.Common.{◌∙◌, ap, rules, tests}
+use Rattle.std.proofs.lemmas.Iterator.Adapters.{YieldsList-from_rev_slice}
+use Rattle.std.proofs.lemmas.Iterator.Consumers.{count_from_yields_List, YieldsList-at}
+use Rattle.std.proofs.lemmas.Iterator.Search.{YieldsList-from_take_while}
+use Rattle.stretch.proofs.Sides.{free_word, last_count}
 use Rattle.stretch.proofs.free_last.Goals as goal
 
-pub loop-i-init : goal.loop-i-init
-loop-i-init c = search (seen_none, rules)
-
-pub loop-i-preserved : goal.loop-i-preserved
-loop-i-preserved c = search (seen_more, eqb-false, not-true)
-
-pub returns-else-words-last-ne0 : goal.returns-else-words-last-ne0
-returns-else-words-last-ne0 c = search (last_marked, eqb-true, not-false)
-
-pub returns-after-loop-i : goal.returns-after-loop-i
-returns-after-loop-i c = search last_all
+pub returns : goal.returns
+returns c =
+    let source = YieldsList-at c.take_while.ensures.source (YieldsList-from_rev_slice _ (ap (λ s. s.rest.now) c.rev.ensures.source ∙ c.iter.ensures.rest)) in
+    last_count c.args.words.now c.args.most c.min.result c.count.result c.min.ensures
+    (count_from_yields_List _ _ c.count.ensures.ran
+    (YieldsList-from_take_while _ free_word source c.take_while.ensures.closure c.take_while.ensures.done (λ x b q k. search (rules, tests))))

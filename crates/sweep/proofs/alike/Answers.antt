@@ -4,11 +4,11 @@
 use Rattle.sweep.proofs.Told.{alike_short, alike_short_other, alike_is}
 use Rattle.sweep.proofs.alike.Goals as goal
 
-pub returns-then-job-a : goal.returns-then-job-a
-returns-then-job-a c = search alike_short
+pub returns-then-view-a : goal.returns-then-view-a
+returns-then-view-a c = search alike_short
 
-pub returns-then-job-b : goal.returns-then-job-b
-returns-then-job-b c = search alike_short_other
+pub returns-then-view-b : goal.returns-then-view-b
+returns-then-view-b c = search alike_short_other
 
 pub returns : goal.returns
 returns c = search alike_is

@@ -1,6 +1,5 @@
 -- `sweep::alike_bound` meets its contract: the words are compared only where the other row's bound is below cap.
 -- Assumes nothing.
-use borrow.Author.Tests.{not-true, not-false}
 use Rattle.sweep.proofs.Told.{by_cap, by_unlike, by_alike}
 use Rattle.sweep.proofs.alike_bound.Goals as goal
 
@@ -8,7 +7,7 @@ pub returns-then-cap-len : goal.returns-then-cap-len
 returns-then-cap-len c = search by_cap
 
 pub returns-then-not-alike : goal.returns-then-not-alike
-returns-then-not-alike c = search (by_unlike, not-true)
+returns-then-not-alike c = search by_unlike
 
 pub returns : goal.returns
-returns c = search (by_alike, not-false)
+returns c = search by_alike

@@ -6,8 +6,8 @@ use Rattle.sweep.proofs.bound_by.Goals as goal
 pub returns-then-q-from : goal.returns-then-q-from
 returns-then-q-from c = search by_before
 
-pub returns-then-job-q : goal.returns-then-job-q
-returns-then-job-q c = search by_past
+pub returns-then-view-q : goal.returns-then-view-q
+returns-then-view-q c = search by_past
 
 pub returns : goal.returns
 returns c = search by_row

@@ -1,13 +1,13 @@
--- `symbol::all_sound` meets its contract: at the head of each turn `all` says whether each word before i is sound.
+-- `symbol::all_sound` meets its contract: the fold over the words is the test of each.
 -- Assumes nothing.
-use Rattle.symbol.proofs.Sequence.{passed_none, passed_more, passed_all}
+use Rattle.std.proofs.Common.{true, ◌&&◌, ◌∙◌, rules}
+use Rattle.std.proofs.lemmas.Iterator.{YieldsList-from_slice}
+use Rattle.std.proofs.lemmas.Iterator.Consumers.{fold_from_yields_List}
+use Rattle.symbol.specs.Word.{is_sound}
+use Rattle.symbol.proofs.Sequence.{every_fold}
 use Rattle.symbol.proofs.all_sound.Goals as goal
 
-pub loop-i-init : goal.loop-i-init
-loop-i-init c = search passed_none
-
-pub loop-i-preserved : goal.loop-i-preserved
-loop-i-preserved c = search passed_more
-
 pub returns : goal.returns
-returns c = search passed_all
+returns c =
+    fold_from_yields_List _ (λ all w. all && is_sound w) true c.fold.result c.fold.ensures.ran (YieldsList-from_slice c.args.s.now cc) (λ a x b q k. search rules)
+    ∙ every_fold is_sound c.args.s.now

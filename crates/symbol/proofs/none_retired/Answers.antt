@@ -1,13 +1,13 @@
--- `symbol::none_retired` meets its contract: at the head of each turn `all` says whether no word before i is retired.
+-- `symbol::none_retired` meets its contract: the fold over the words is the test of each.
 -- Assumes nothing.
-use Rattle.symbol.proofs.Sequence.{passed_none, passed_more, passed_all, unlike}
+use Rattle.std.proofs.Common.{true, ◌&&◌, ◌∙◌, rules}
+use Rattle.std.proofs.lemmas.Iterator.{YieldsList-from_slice}
+use Rattle.std.proofs.lemmas.Iterator.Consumers.{fold_from_yields_List}
+use Rattle.symbol.specs.Sequence.{is_current}
+use Rattle.symbol.proofs.Sequence.{every_fold}
 use Rattle.symbol.proofs.none_retired.Goals as goal
 
-pub loop-i-init : goal.loop-i-init
-loop-i-init c = search passed_none
-
-pub loop-i-preserved : goal.loop-i-preserved
-loop-i-preserved c = search (passed_more, unlike)
-
 pub returns : goal.returns
-returns c = search passed_all
+returns c =
+    fold_from_yields_List _ (λ all w. all && is_current w) true c.fold.result c.fold.ensures.ran (YieldsList-from_slice c.args.s.now cc) (λ a x b q k. search rules)
+    ∙ every_fold is_current c.args.s.now

@@ -1,13 +1,8 @@
--- `tile::mark_words` meets its contract: after i turns the first i words of the stretch are marked and nothing else is touched.
+-- `tile::mark_words` meets its contract: the part from the position on is zeros, and nothing else is touched.
 -- Assumes nothing.
-use Rattle.tile.proofs.Marking.{marked_none, marked_more, marked_all}
+use Rattle.std.proofs.Common.{rules}
+use Rattle.tile.proofs.Marking.{mark_put}
 use Rattle.tile.proofs.mark_words.Goals as goal
 
-pub loop-i-init : goal.loop-i-init
-loop-i-init c = search marked_none
-
-pub loop-i-preserved : goal.loop-i-preserved
-loop-i-preserved c = search marked_more
-
 pub returns : goal.returns
-returns c = search marked_all
+returns c = mark_put c.args.at c.args.len c.args.words.now c.fill.new.self c.requires (search rules)

@@ -11,10 +11,7 @@ pub loop-i-init : goal.loop-i-init
 loop-i-init c = search replaced_fits
 
 pub loop-i-preserved : goal.loop-i-preserved
-loop-i-preserved c = let a = c.args in
-    replaced_more a.b a.s a.words.now a.buffer.now c.loop-i.buffer c.loop-i.h c.loop-i.i c.loop-i.invariant _ _ _ _
-    c.requires.0 c.power-p.ensures c.loop-i-test.true
-    c.replaced-outgoing.ensures c.replaced-incoming.ensures c.roll-h.ensures
+loop-i-preserved c = search replaced_more
 
 pub returns : goal.returns
 returns c = search replaced_all

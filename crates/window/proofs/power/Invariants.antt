@@ -1,11 +1,7 @@
--- `window::power` meets its contract: after i turns p is the i-th power.
+-- `window::power` meets its contract: after `counter` turns p is that power.
 -- Assumes nothing.
-use Rattle.std.proofs.Common.{◌-◌}
-use Rattle.window.proofs.Hash.{Raised}
+use Rattle.std.proofs.Common.{◌≡◌, ◌%◌, ◌^◌}
 use Rattle.window.proofs.power.Given as goal
 
-abbrev pub invariant-loop-i : goal.invariant-loop-i
-invariant-loop-i l = Raised l.b l.e l.p l.i
-
-abbrev pub decreases-loop-i : goal.decreases-loop-i
-decreases-loop-i l = l.e - l.i
+abbrev pub invariant-loop : goal.invariant-loop
+invariant-loop l = l.p ≡ l.b ^ l.counter % 2 ^ 32

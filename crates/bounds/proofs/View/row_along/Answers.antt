@@ -1,0 +1,21 @@
+-- `bounds::row_along` meets its contract: at the head of each turn no row after p up to q has the level for its bound, and rows between q and the
+-- next free one are covered and have none.
+-- Assumes nothing.
+use Prim.Native.Nat.{◌+◌, ◌-◌, ◌<◌}
+use native.Mathlib.Omega.{arith}
+use mathlib.Core.Path.{◌≡◌}
+use Rattle.bounds.proofs.Blocks.{not_level, past_linked, along_none, along_more, along_all}
+use Rattle.bounds.proofs.View.row_along.Goals as goal
+
+pub loop-q-init : goal.loop-q-init
+loop-q-init c = search along_none
+
+pub loop-q-preserved : goal.loop-q-preserved
+loop-q-preserved c = let within : c.loop-q.q + 1 < c.min-end.result = omega arith in search (along_more, not_level)
+
+pub returns-then-row_linked-q : goal.returns-then-row_linked-q
+returns-then-row_linked-q c = search (along_all, past_linked)
+
+pub returns : goal.returns
+returns c = let last : c.loop-q.q ≡ c.min-end.result - 1 = omega arith in
+    let along = rw last at c.loop-q.invariant in search (along_all, past_linked)

@@ -1,7 +1,0 @@
--- `plain::step` meets its contract: bounds only fall, and the blocks that are set anew are the greatest of theirs.
--- Assumes nothing.
-use Rattle.bounds.proofs.Blocks.{covering_after}
-use Rattle.plain.proofs.step.Goals as goal
-
-pub returns-clause-covering : goal.returns-clause-covering
-returns-clause-covering c = search covering_after

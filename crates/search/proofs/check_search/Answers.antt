@@ -1,0 +1,8 @@
+-- `search::check_search` meets its contract: a refusal of the first checks stops the chain.
+-- Assumes nothing.
+use borrow.Author.Rules.{rules}
+use Rattle.tiling.proofs.Comparing.{pair_stopped}
+use Rattle.search.proofs.check_search.Goals as goal
+
+pub returns-in_err-pair-clause-checked : goal.returns-in_err-pair-clause-checked
+returns-in_err-pair-clause-checked c = search (rules, pair_stopped)
