@@ -4,7 +4,7 @@ use Prim.Native.Nat.{ℕ, ◌+◌, ◌-◌, ◌*◌, ◌≤◌, ◌<◌}
 use native.Mathlib.Decide.{dec_lt, ℕ_discrete}
 use native.Mathlib.Omega.{arith}
 use mathlib.Core.Path.{◌≡◌, refl, sym, ◌∙◌, ap, subst}
-use mathlib.Core.List.{List, ◌++◌}
+use mathlib.Core.List.{List}
 use lib.ListN.{length, take, drop, get_or, set, length-drop, length-set}
 use lib.Seq.{length-take-le, get_or-take, take-set-le, take-take, drop-drop, drop-set-lt, drop-set-add, get_or-set_other}
 use Rattle.buffer.proofs.Buffer.{rest_of_front}
@@ -14,8 +14,7 @@ use Rattle.tiling.proofs.Run.{length_mark, mark_before, mark_inside, mark_after}
 use Rattle.tiling.proofs.Replaced.{current_lay}
 use Rattle.tile.proofs.Marking.{take_mark_in, take_mark_out, drop_mark_in, drop_mark_out}
 use Rattle.bounds.specs.Workspace.{Space, state, bounds_from, bound, chains_from, pattern_chain, text_chain, marked, unlinked_in, laid}
-use Rattle.chain.specs.Chain.{Free, next_of, Ranged, Chained}
-use Rattle.chain.specs.Stretches.{StretchBefore}
+use Rattle.chain.specs.Chain.{Free, Ranged}
 use Rattle.chain.specs.Unlinked.{unlinked}
 use Rattle.chain.proofs.Links.{chained_unlinked, length_unlinked}
 use Rattle.bounds.specs.Greatest.{Greatest}
@@ -275,18 +274,6 @@ module _ (j : Job) (ws : List ℕ) (p t len : ℕ) (h : p + len ≤ j.n) (k : t 
       is : state j (laid j p t len ws) ≡ lay (state j ws) (record { p = p; t = t; len = len })
       is = state_laid j ws p t len h k s.roomy
 
-pub part_unlinked : (from to at len : ℕ) (ws part : List ℕ) → from ≤ to → part ≡ unlinked at len (take (to - from) (drop from ws)) → take from ws ++ (part ++ drop (to - from) (drop from ws)) ≡ unlinked_in from to at len ws
-part_unlinked from to at len ws part h e =
-    let all : from + (to - from) ≡ to = omega arith in
-    rw (e, drop-drop (to - from) from ws, all) refl
-
--- A tile is laid by three marks, and taken out of two chains.
-pub marked_all : (j : Job) (p t len : ℕ) (ws ws₁ ws₂ ws₃ : List ℕ) → ws₁ ≡ mark p len ws → ws₂ ≡ mark (j.n + t) len ws₁ → ws₃ ≡ mark (2 * (j.n + j.m) + p) len ws₂ → ws₃ ≡ marked j p t len ws
-marked_all j p t len ws ws₁ ws₂ ws₃ a b c = rw (c, b, a) refl
-
-pub laid_all : (j : Job) (p t len : ℕ) (ws ws₁ ws₂ ws₃ : List ℕ) → ws₁ ≡ marked j p t len ws → ws₂ ≡ unlinked_in (3 * (j.n + j.m)) (3 * (j.n + j.m) + j.n) p len ws₁ → ws₃ ≡ unlinked_in (3 * (j.n + j.m) + j.n) (4 * (j.n + j.m)) t len ws₂ → ws₃ ≡ laid j p t len ws
-laid_all j p t len ws ws₁ ws₂ ws₃ a b c = rw (c, b, a) refl
-
 -- What taking it out asks for, step by step.
 module _ (j : Job) (ws : List ℕ) (p t len : ℕ) (s : Space j ws) (h : p + len ≤ j.n) (k : t + len ≤ j.m) (ws₁ : List ℕ) (w₁ : ws₁ ≡ marked j p t len ws) where
   pub marked_ranged : Ranged (take (3 * (j.n + j.m) + j.n - 3 * (j.n + j.m)) (drop (3 * (j.n + j.m)) ws₁))
@@ -306,32 +293,6 @@ module _ (j : Job) (ws : List ℕ) (p t len : ℕ) (s : Space j ws) (h : p + len
     unlinked_room = omega (arith, ap length is₂, length₂ j ws p t len h k s.roomy, length_marked j ws p t len, s.roomy)
 
 -- ---- the chains as parts of the workspace
-pub rows_part : (j : Job) (ws : List ℕ) → take (3 * (j.n + j.m) + j.n - 3 * (j.n + j.m)) (drop (3 * (j.n + j.m)) ws) ≡ pattern_chain j ws
-rows_part j ws = let e : 3 * (j.n + j.m) + j.n - 3 * (j.n + j.m) ≡ j.n = omega arith in rw e refl
-
-pub rows_chained : (j : Job) (ws : List ℕ) → Space j ws → Chained (take (j.n - 0) (drop 0 ws)) (take (3 * (j.n + j.m) + j.n - 3 * (j.n + j.m)) (drop (3 * (j.n + j.m)) ws))
-rows_chained j ws s = let e : j.n - 0 ≡ j.n = omega arith in rw (e, rows_part j ws) s.of_pattern
-
-pub texts_chained : (j : Job) (ws : List ℕ) → Space j ws → Chained (take (j.n + j.m - j.n) (drop j.n ws)) (take (4 * (j.n + j.m) - (3 * (j.n + j.m) + j.n)) (drop (3 * (j.n + j.m) + j.n) ws))
-texts_chained j ws s =
-    let a : j.n + j.m - j.n ≡ j.m = omega arith in
-    let b : 4 * (j.n + j.m) - (3 * (j.n + j.m) + j.n) ≡ j.m = omega arith in
-    rw (a, b) s.of_text
-
-pub linked_row : (j : Job) (ws : List ℕ) (p r : ℕ) → r ≡ next_of (take (3 * (j.n + j.m) + j.n - 3 * (j.n + j.m)) (drop (3 * (j.n + j.m)) ws)) p → r ≡ next_of (pattern_chain j ws) p
-linked_row j ws p r e = e ∙ ap (λ es. next_of es p) (rows_part j ws)
-
-pub rows_end : (j : Job) (ws : List ℕ) (end : ℕ) → Space j ws → end ≤ j.n → end ≤ length (take (j.n - 0) (drop 0 ws))
-rows_end j ws end s h = let e : j.n - 0 ≡ j.n = omega arith in rw e (omega (arith, pattern_length j ws s))
-
-pub texts_end : (j : Job) (ws : List ℕ) (end : ℕ) → Space j ws → end ≤ j.m → end ≤ length (take (j.n + j.m - j.n) (drop j.n ws))
-texts_end j ws end s h = let e : j.n + j.m - j.n ≡ j.m = omega arith in rw e (omega (arith, text_length j ws s))
-
-pub rows_stretch : (j : Job) (ws : List ℕ) (end from to : ℕ) → StretchBefore (take (j.n - 0) (drop 0 ws)) end from to → StretchBefore (state j ws).pattern end from to
-rows_stretch j ws end from to r = let e : j.n - 0 ≡ j.n = omega arith in rw e at r
-
-pub texts_stretch : (j : Job) (ws : List ℕ) (end from to : ℕ) → StretchBefore (take (j.n + j.m - j.n) (drop j.n ws)) end from to → StretchBefore (state j ws).text end from to
-texts_stretch j ws end from to r = let e : j.n + j.m - j.n ≡ j.m = omega arith in rw e at r
 
 -- The bounds of some rows as a part of the workspace.
 pub greatest_rows : (j : Job) (ws : List ℕ) (from to r : ℕ) → Space j ws → from ≤ to → to ≤ j.n → (let begin = 2 * (j.n + j.m) + from in let end = 2 * (j.n + j.m) + to in let part = take (end - begin) (drop begin ws) in Greatest (λ k. get_or part k 0) (length part) r) → Greatest (λ i. bound j ws (from + i)) (to - from) r

@@ -10,8 +10,8 @@ ghost use Rattle.bounds.specs.Workspace.{Space, state, bounds_from, bound, patte
 ghost use Rattle.bounds.specs.Greatest.{Greatest};
 ghost use Rattle.bounds.specs.Blocks.{block_count, BlockSet, Refreshed, rows_end, in_level, Renewed, Covering};
 
-use chain::Stretch;
-use tile::{PatternAt, TextAt};
+use chain::{FreeWords, Stretch};
+use tile::{PatternAt, TextAt, Tile};
 
 // What a comparison works on: the lengths of pattern and text, the minimum, and whether the first sequence is the pattern.
 #[derive(Clone, Copy)]
@@ -31,6 +31,16 @@ pub struct View<'a> {
     ghost space: { Space job words.now },
 }
 
+// The rows whose bound is a level: a workspace to read, what stands for each block of its rows, and the level.
+#[derive(Clone, Copy)]
+pub struct LevelRows<'a, 'b> {
+    pub view: View<'a>,
+    pub blocks: &'b [u32; 64],
+    pub level: usize,
+    ghost covering: { Covering view.job view.words.now blocks.now },
+    ghost some: { 1 ≤ level },
+}
+
 // The greatest of some words; 0 where there are none.
 fn greatest(words: &[u32]) -> u32
     ensures { Greatest (λ i. get_or words.now i 0) (length words.now) result }
@@ -40,23 +50,6 @@ fn greatest(words: &[u32]) -> u32
         most = most.max(*word);
     }
     most
-}
-
-// How many blocks of 32 rows there are.
-fn block_count(job: Job) -> usize
-    requires { job.n ≤ 2048 }
-    ensures { result ≡ block_count job }
-{
-    job.n.div_ceil(32)
-}
-
-// The greatest of all blocks.
-pub fn top(blocks: &[u32; 64], job: Job) -> usize
-    requires { job.n ≤ 2048 }
-    ensures { Greatest (λ b. get_or blocks.now b 0) (block_count job) result }
-{
-    let count = block_count(job);
-    greatest(&blocks[..count]) as usize
 }
 
 // The next block from one on, of so many, that is not below the level; their number where there is none.
@@ -96,6 +89,21 @@ impl<'a> View<'a> {
         }
     }
 
+    // How many blocks of 32 rows there are.
+    fn block_count(&self) -> usize
+        ensures { result ≡ block_count self.now.job }
+    {
+        self.job.n.div_ceil(32)
+    }
+
+    // The greatest of all blocks.
+    pub fn top(&self, blocks: &[u32; 64]) -> usize
+        ensures { Greatest (λ b. get_or blocks.now b 0) (block_count self.now.job) result }
+    {
+        let count = self.block_count();
+        greatest(&blocks[..count]) as usize
+    }
+
     // Sets the greatest bound of a block of 32 rows anew.
     fn set_block(&self, blocks: &mut [u32; 64], b: usize)
         requires { 32 * b < self.now.job.n }
@@ -121,7 +129,7 @@ impl<'a> View<'a> {
     pub fn refresh(&self, blocks: &mut [u32; 64])
         ensures { Refreshed self.now.job self.now.words.now 0 (block_count self.now.job) blocks.old blocks.new }
     {
-        self.set_blocks(blocks, 0, block_count(self.job));
+        self.set_blocks(blocks, 0, self.block_count());
     }
 
     // Whether row q stands in the block of row p and has the level for its bound.
@@ -161,57 +169,6 @@ impl<'a> View<'a> {
         chain::next_of(&self.words[from..to], p)
     }
 
-    // A free row after p up to which none has the level for its bound: rows of p's block are passed over as long as each has its neighbour
-    // for the next free one, so that no step waits for the entry before it; from there it is the next one.
-    fn row_along(&self, level: usize, p: usize) -> usize
-        requires { (1 ≤ level) × (p < self.now.job.n) }
-        ensures { Passing (λ q. bound self.now.job self.now.words.now q ≡ level) (p + 1) self.now.job.n result }
-    {
-        let end = (p / 32 * 32 + 32).min(self.job.n);
-        for q in p..end - 1 {
-            if self.row_linked(q) != q + 1 || self.bound_of(PatternAt(q + 1)) == level {
-                return self.row_linked(q);
-            }
-        }
-        self.row_linked(end - 1)
-    }
-
-    // A row after p up to which none has the level for its bound: where p's block is below the level, the first of the next block that is
-    // not; else a free row of p's block, or the next one after it.
-    fn row_past(&self, blocks: &[u32; 64], level: usize, p: usize) -> usize
-        requires { Covering self.now.job self.now.words.now blocks.now × (1 ≤ level) × (p < self.now.job.n) }
-        ensures { Passing (λ q. bound self.now.job self.now.words.now q ≡ level) (p + 1) self.now.job.n result }
-    {
-        let b = p / 32;
-        if (blocks[b] as usize) < level {
-            let count = block_count(self.job);
-            return (32 * next_block(blocks, level, b + 1, count)).min(self.job.n);
-        }
-        self.row_along(level, p)
-    }
-
-    // The first row from `from` on whose bound is the level, or one past the last. Rows are taken from the chain, and blocks of rows that
-    // are below the level are passed over.
-    pub fn next_row(&self, blocks: &[u32; 64], level: usize, from: PatternAt) -> PatternAt
-        requires { (from.0 ≤ self.now.job.n) × Covering self.now.job self.now.words.now blocks.now × (1 ≤ level) }
-        ensures { First (λ q. bound self.now.job self.now.words.now q ≡ level) from.0 self.now.job.n result.0 }
-    {
-        let mut p = from.0;
-        while p < self.job.n && self.bound_of(PatternAt(p)) != level {
-            p = self.row_past(blocks, level, p);
-        }
-        PatternAt(p)
-    }
-
-    // The first row after p whose bound is the level, or one past the last.
-    pub fn later_row(&self, blocks: &[u32; 64], level: usize, p: PatternAt) -> PatternAt
-        requires { (p.0 < self.now.job.n) × Covering self.now.job self.now.words.now blocks.now × (1 ≤ level) }
-        ensures { First (λ q. bound self.now.job self.now.words.now q ≡ level) (p.0 + 1) self.now.job.n result.0 }
-    {
-        let from = self.row_past(blocks, level, p.0);
-        self.next_row(blocks, level, PatternAt(from))
-    }
-
     // The last stretch of free words of the pattern before a position; an empty one at 0 where there is none.
     pub fn rows_before(&self, end: PatternAt) -> Stretch<PatternAt>
         requires { end.0 ≤ self.now.job.n }
@@ -220,7 +177,11 @@ impl<'a> View<'a> {
         let n = self.job.n;
         let from = 3 * (n + self.job.m);
         let to = from + n;
-        let part = chain::stretch_before(&self.words[0..n], &self.words[from..to], end.0);
+        let free = FreeWords {
+            words: &self.words[0..n],
+            chain: &self.words[from..to],
+        };
+        let part = free.stretch_before(end.0);
         Stretch {
             from: PatternAt(part.from),
             to: PatternAt(part.to),
@@ -236,11 +197,70 @@ impl<'a> View<'a> {
         let all = n + self.job.m;
         let from = 3 * all + n;
         let to = 4 * all;
-        let part = chain::stretch_before(&self.words[n..all], &self.words[from..to], end.0);
+        let free = FreeWords {
+            words: &self.words[n..all],
+            chain: &self.words[from..to],
+        };
+        let part = free.stretch_before(end.0);
         Stretch {
             from: TextAt(part.from),
             to: TextAt(part.to),
         }
+    }
+}
+
+impl<'a, 'b> LevelRows<'a, 'b> {
+    // A free row after p up to which none has the level for its bound: rows of p's block are passed over as long as each has its neighbour
+    // for the next free one, so that no step waits for the entry before it; from there it is the next one.
+    fn row_along(&self, p: usize) -> usize
+        requires { p < self.now.view.job.n }
+        ensures { Passing (λ q. bound self.now.view.job self.now.view.words.now q ≡ self.now.level) (p + 1) self.now.view.job.n result }
+    {
+        let end = (p / 32 * 32 + 32).min(self.view.job.n);
+        for q in p..end - 1 {
+            if self.view.row_linked(q) != q + 1
+                || self.view.bound_of(PatternAt(q + 1)) == self.level
+            {
+                return self.view.row_linked(q);
+            }
+        }
+        self.view.row_linked(end - 1)
+    }
+
+    // A row after p up to which none has the level for its bound: where p's block is below the level, the first of the next block that is
+    // not; else a free row of p's block, or the next one after it.
+    fn row_past(&self, p: usize) -> usize
+        requires { p < self.now.view.job.n }
+        ensures { Passing (λ q. bound self.now.view.job self.now.view.words.now q ≡ self.now.level) (p + 1) self.now.view.job.n result }
+    {
+        let b = p / 32;
+        if (self.blocks[b] as usize) < self.level {
+            let count = self.view.block_count();
+            return (32 * next_block(self.blocks, self.level, b + 1, count)).min(self.view.job.n);
+        }
+        self.row_along(p)
+    }
+
+    // The first row from `from` on whose bound is the level, or one past the last. Rows are taken from the chain, and blocks of rows that
+    // are below the level are passed over.
+    pub fn next_row(&self, from: PatternAt) -> PatternAt
+        requires { from.0 ≤ self.now.view.job.n }
+        ensures { First (λ q. bound self.now.view.job self.now.view.words.now q ≡ self.now.level) from.0 self.now.view.job.n result.0 }
+    {
+        let mut p = from.0;
+        while p < self.view.job.n && self.view.bound_of(PatternAt(p)) != self.level {
+            p = self.row_past(p);
+        }
+        PatternAt(p)
+    }
+
+    // The first row after p whose bound is the level, or one past the last.
+    pub fn later_row(&self, p: PatternAt) -> PatternAt
+        requires { p.0 < self.now.view.job.n }
+        ensures { First (λ q. bound self.now.view.job self.now.view.words.now q ≡ self.now.level) (p.0 + 1) self.now.view.job.n result.0 }
+    {
+        let from = self.row_past(p.0);
+        self.next_row(PatternAt(from))
     }
 }
 
@@ -262,25 +282,26 @@ fn unlink_in(ws: &mut [u32], from: usize, to: usize, at: usize, len: usize)
 }
 
 // Marks the words of a tile on both sequences and takes them out of both chains, and clears the bounds of the rows that it covers.
-pub fn lay_tile(ws: &mut [u32], job: Job, p: PatternAt, t: TextAt, len: usize)
-    requires { Space job ws.old × (1 ≤ len) × (p.0 + len ≤ job.n) × (t.0 + len ≤ job.m) }
-    ensures { ws.new ≡ laid job p.0 t.0 len ws.old }
+pub fn lay_tile(ws: &mut [u32], job: Job, tile: Tile)
+    requires { Space job ws.old × (1 ≤ tile.len) × (tile.p.0 + tile.len ≤ job.n) × (tile.t.0 + tile.len ≤ job.m) }
+    ensures { ws.new ≡ laid job tile.p.0 tile.t.0 tile.len ws.old }
 {
-    mark_tile(ws, job, p, t, len);
+    mark_tile(ws, job, tile);
     let from = 3 * (job.n + job.m);
     let middle = from + job.n;
     let to = 4 * (job.n + job.m);
-    unlink_in(ws, from, middle, p.0, len);
-    unlink_in(ws, middle, to, t.0, len);
+    unlink_in(ws, from, middle, tile.p.0, tile.len);
+    unlink_in(ws, middle, to, tile.t.0, tile.len);
 }
 
 // Marks them, and clears the bounds.
-fn mark_tile(ws: &mut [u32], job: Job, p: PatternAt, t: TextAt, len: usize)
-    requires { Space job ws.old × (p.0 + len ≤ job.n) × (t.0 + len ≤ job.m) }
-    ensures { ws.new ≡ marked job p.0 t.0 len ws.old }
+fn mark_tile(ws: &mut [u32], job: Job, tile: Tile)
+    requires { Space job ws.old × (tile.p.0 + tile.len ≤ job.n) × (tile.t.0 + tile.len ≤ job.m) }
+    ensures { ws.new ≡ marked job tile.p.0 tile.t.0 tile.len ws.old }
 {
-    let rows = 2 * (job.n + job.m) + p.0;
-    tile::mark_words(ws, p.0, len);
-    tile::mark_words(ws, job.n + t.0, len);
-    tile::mark_words(ws, rows, len);
+    let p = tile.p.0;
+    let rows = 2 * (job.n + job.m) + p;
+    tile::mark_words(ws, p, tile.len);
+    tile::mark_words(ws, job.n + tile.t.0, tile.len);
+    tile::mark_words(ws, rows, tile.len);
 }

@@ -51,10 +51,6 @@ pub record Copied (words b₀ b : List ℕ) (i : ℕ) : Type 0 where
   pub held : b ≡ onto (take i words) b₀
   pub same : length b ≡ length b₀
 
-pub copied_none : (words b : List ℕ) → length words ≤ length b → Copied words b b 0
-copied_none [] b h = record { within = omega arith; room = h; held = refl; same = refl }
-copied_none (w ∷ words) b h = record { within = omega arith; room = h; held = refl; same = refl }
-
 pub copied_more : (words b₀ b : List ℕ) (i : ℕ) → Copied words b₀ b i → i < length words → Copied words b₀ (set b i (get_or words i 0)) (i + 1)
 copied_more words b₀ b i r h =
     let n : length (take i words) ≡ i = length-take-le i words (omega arith) in

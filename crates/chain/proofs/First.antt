@@ -6,9 +6,6 @@ use native.Mathlib.Omega.{arith}
 use mathlib.Core.Path.{◌≡◌}
 use Rattle.chain.specs.First.{First, Passing}
 
-pub passing_none : (Q : ℕ → Type 0) (from n : ℕ) → from ≤ n → Passing Q from n from
-passing_none Q from n h = record { least = omega arith; within = h; none = λ k a b q. absurd (omega arith) }
-
 module _ (Q : ℕ → Type 0) (from n i : ℕ) (r : Passing Q from n i) where
   pub passing_to : (next : ℕ) → i ≤ next → next ≤ n → ((k : ℕ) → i ≤ k → k < next → Q k → ⊥) → Passing Q from n next
   passing_to next h l d = record { least = omega (arith, r.least); within = l; none = λ k a b. none k a b (dec_lt k i) }
@@ -22,20 +19,3 @@ module _ (Q : ℕ → Type 0) (from n i : ℕ) (r : Passing Q from n i) where
 
   pub first_none : n ≤ i → First Q from n i
   first_none h = record { least = r.least; within = r.within; none = r.none; stops = λ l. absurd (omega arith) }
-
-  pub first_at : Q i → First Q from n i
-  first_at q = record { least = r.least; within = r.within; none = r.none; stops = λ l. q }
-
--- From where none was found on, the first is the first of all.
-pub first_from : (Q : ℕ → Type 0) (from n i r : ℕ) → Passing Q from n i → First Q i n r → First Q from n r
-first_from Q from n i r p f =
-    record {
-      least = omega (arith, p.least, f.least);
-      within = f.within;
-      none = λ k a b. none k a b (dec_lt k i);
-      stops = f.stops;
-    }
-  where
-    none : (k : ℕ) → from ≤ k → k < r → Dec (k < i) → Q k → ⊥
-    none k a b (yes m) = p.none k a m
-    none k a b (no m) = f.none k (omega (arith, m)) b

@@ -3,21 +3,21 @@
 -- Assumes nothing.
 use Prim.Native.Nat.{ℕ, zero, suc, ◌+◌, ◌-◌, ◌/◌, ◌≤◌, ◌<◌}
 use native.Mathlib.Nat.{not-suc-le-zero, le_of_suc-le-suc}
-use native.Mathlib.Decide.{dec_lt, ℕ_discrete}
+use native.Mathlib.Decide.{ℕ_discrete}
 use native.Mathlib.Omega.{arith}
 use mathlib.Core.Path.{◌≡◌, refl, sym, ◌∙◌}
 use mathlib.Core.Bool.{Bool, true, false, ◌&&◌}
 use mathlib.Core.List.{List, [], ◌∷◌}
-use borrow.Author.Tests.{eqb-true, eqb-false, eq-eqb}
+use borrow.Author.Tests.{eqb-true, eq-eqb}
 use lib.Dec.{eqb}
 use lib.ListN.{length, get_or, take, drop, length-take, length-drop}
 use lib.Seq.{get_or-take, get_or-drop, take_all}
 use Rattle.std.specs.List.{fold}
-use Rattle.chain.specs.First.{First, Last, Passing}
-use Rattle.chain.specs.Chain.{Free, next_of, before_of, gap_before, Ranged, Chained}
-use Rattle.chain.specs.Stretches.{Zeros, ZeroTail, ZerosFrom, Joined, StretchBefore}
-use Rattle.chain.proofs.First.{passing_to, first_at}
-use Rattle.chain.proofs.Last.{Returning, returning_to, last_at}
+use Rattle.chain.specs.First.{Last, Passing}
+use Rattle.chain.specs.Chain.{Free, next_of, before_of, Chained}
+use Rattle.chain.specs.Stretches.{Zeros, ZerosFrom, Joined, StretchBefore}
+use Rattle.chain.proofs.First.{passing_to}
+use Rattle.chain.proofs.Last.{Returning, returning_to}
 
 -- ---- from a word that is not free to the next free one, and to the one before
 module _ (xs es : List ℕ) (h : Chained xs es) where
@@ -40,9 +40,6 @@ module _ (xs es : List ℕ) (h : Chained xs es) where
         none k a b (yes i) q = q (rw i (eqb-true (get_or xs at 0) 0 m))
         none k a b (no d) q = h.passed at k l (omega (arith, d)) (omega arith) q
 
-    pub chain_found : eqb (get_or xs at 0) 0 ≡ false → First (Free xs) from (length xs) at
-    chain_found m = first_at (Free xs) from (length xs) at p (eqb-false (get_or xs at 0) 0 m)
-
   pub chain_on_less : (at next : ℕ) → at < length xs → next ≡ next_of es at → length xs - next < length xs - at
   unfolding next_of
   chain_on_less at next l e = omega arith
@@ -56,12 +53,6 @@ module _ (xs es : List ℕ) (h : Chained xs es) where
         none : (k : ℕ) → before ≤ k → k < end → Dec (k ≡ end - 1) → Free xs k → ⊥
         none k a b (yes i) q = q (rw i (eqb-true (get_or xs (end - 1) 0) 0 m))
         none k a b (no d) q = h.passed_back (end - 1) k (omega (arith, p.within)) (omega arith) (omega (arith, d)) q
-
-    pub chain_last : eqb (get_or xs (end - 1) 0) 0 ≡ false → Last (Free xs) to end
-    chain_last m = last_at (Free xs) to end p (eqb-false (get_or xs (end - 1) 0) 0 m)
-
-  pub chain_back_room : (at : ℕ) → at < length xs → gap_before es at ≤ at
-  chain_back_room at l = h.ranged.back at (omega (arith, h.each))
 
   pub chain_back_less : (end before : ℕ) → 0 < end → before ≡ before_of es (end - 1) → before < end
   unfolding before_of
@@ -106,67 +97,10 @@ block_fold ws r h e =
     f : r ≡ fold (λ all w. all && is_zero w) true part
     f = rw (take_all (length ws - (length ws - 16)) part (omega (arith, long))) at e
 
-pub tail_none : (ws : List ℕ) → ZeroTail ws (length ws)
-tail_none ws = record { within = omega arith; zero = λ i a b. absurd (omega arith) }
-
--- One block more.
-pub block_part : (ws : List ℕ) (n : ℕ) → ZeroTail ws n → 16 ≤ n → 16 ≤ length (take (n - 0) ws)
-block_part ws n t h = let e : n - 0 ≡ n = omega arith in rw (e, length-take) (omega (arith, t.within))
-
-pub tail_block : (ws : List ℕ) (n : ℕ) (r : Bool) → ZeroTail ws n → 16 ≤ n → Zeros (take (n - 0) ws) r → r ≡ true → ZeroTail ws (n - 16)
-tail_block ws n r t h y e = record { within = omega (arith, t.within); zero = λ i a b. zero i a b (dec_lt i n) }
-  where
-    z : Zeros (take n ws) r
-    z = let k : n - 0 ≡ n = omega arith in rw k at y
-
-    zero : (i : ℕ) → n - 16 ≤ i → i < length ws → Dec (i < n) → get_or ws i 0 ≡ 0
-    zero i a b (yes l) =
-        let k : length (take n ws) ≡ n = simp length-take (omega (arith, t.within)) in
-        sym (get_or-take n ws i 0 l) ∙ z.all e i (omega arith) (omega arith)
-    zero i a b (no l) = t.zero i (omega (arith, l)) b
-
--- Before the blocks, the last word that is not 0 decides.
-module _ (ws : List ℕ) (n : ℕ) (t : ZeroTail ws n) where
-  module _ (from : ℕ) (none : (k : ℕ) → from ≤ k → k < length (take n ws) → get_or (take n ws) k 0 ≡ 0) where
-    zero_at : (k : ℕ) → from ≤ k → k < length ws → Dec (k < n) → get_or ws k 0 ≡ 0
-    zero_at k a b (yes d) = sym (get_or-take n ws k 0 d) ∙ none k a (omega (arith, length-take n ws))
-    zero_at k a b (no d) = t.zero k (omega (arith, d)) b
-
-  pub zeros_past : (i : ℕ) → i < length (take n ws) → Free (take n ws) i → ((k : ℕ) → i < k → k < length (take n ws) → get_or (take n ws) k 0 ≡ 0) → ZerosFrom ws (i + 1)
-  zeros_past i l f none =
-      let w = length-take n ws in
-      let e : i + 1 - 1 ≡ i = omega arith in
-      record {
-        within = omega (arith, w);
-        zero = λ k a b. zero_at (i + 1) (λ k a b. none k (omega arith) b) k a b (dec_lt k n);
-        other = λ _ z. f (get_or-take n ws i 0 (omega (arith, w)) ∙ rw e at z);
-      }
-
-  pub zeros_all : ((k : ℕ) → k < length (take n ws) → get_or (take n ws) k 0 ≡ 0) → ZerosFrom ws 0
-  zeros_all none =
-      record {
-        within = omega arith;
-        zero = λ k a b. zero_at 0 (λ k a b. none k b) k a b (dec_lt k n);
-        other = λ l. absurd (omega arith);
-      }
-
 -- ---- a stretch
 most : (es : List ℕ) (i : ℕ) → before_of es i ≤ i
 unfolding before_of
 most es i = omega arith
-
-pub ranged_room : (es : List ℕ) (i : ℕ) → Ranged es → i < length es → gap_before es i ≤ i
-ranged_room es i r l = r.back i l
-
-pub joined_alone : (es : List ℕ) (last before : ℕ) → before ≡ before_of es last → (before ≡ last → ⊥) → Joined es last last
-joined_alone es last before e d =
-    record {
-      low = omega arith;
-      here = λ l. absurd (omega arith);
-      zero = λ i a b. absurd (omega arith);
-      alone = λ l r k. d (e ∙ k);
-      other = λ l r. absurd (omega arith);
-    }
 
 module _ (es : List ℕ) (last before at : ℕ) (w : last < length es) (e : before ≡ before_of es last) (m : before ≡ last) (y : ZerosFrom (take (last - 0) es) at) where
   z : ZerosFrom (take last es) at
@@ -199,17 +133,6 @@ module _ (es : List ℕ) (last before at : ℕ) (w : last < length es) (e : befo
       }
 
 module _ (xs es : List ℕ) (h : Chained xs es) (end to : ℕ) (w : end ≤ length xs) (l : Last (Free xs) end to) where
-  pub stretch_none : to ≡ 0 → StretchBefore xs end 0 to
-  stretch_none e =
-      record {
-        ordered = omega arith;
-        within = l.within;
-        some = λ k. absurd (omega arith);
-        free = λ k a b. absurd (omega arith);
-        past = l.none;
-        edge = λ k. absurd (omega arith);
-      }
-
   module _ (n : to ≡ 0 → ⊥) (from : ℕ) (j : Joined es (to - 1) from) where
     zeroed : (i : ℕ) → get_or es i 0 ≡ 0 → before_of es i ≡ i
     unfolding before_of

@@ -1,12 +1,12 @@
 -- Taking words out of a chain, entry by entry, as the code goes about it.
 -- Assumes nothing.
-use Prim.Native.Nat.{ℕ, zero, suc, ◌+◌, ◌-◌, ◌*◌, ◌/◌, ◌≤◌, ◌<◌}
+use Prim.Native.Nat.{ℕ, zero, suc, ◌+◌, ◌-◌, ◌*◌, ◌≤◌, ◌<◌}
 use native.Mathlib.Omega.{arith}
-use mathlib.Core.Path.{◌≡◌, refl, ◌∙◌, ap}
+use mathlib.Core.Path.{◌≡◌, refl, ◌∙◌}
 use mathlib.Core.List.{List}
 use borrow.Author.Tests.{lt-ltb, le-ltb}
 use lib.ListN.{length, set}
-use Rattle.chain.specs.Chain.{gap_before, next_of, before_of, entry, Ranged}
+use Rattle.chain.specs.Chain.{next_of, before_of, entry, Ranged}
 use Rattle.chain.specs.Unlinked.{pointed_on, pointed_back, led, mended, led_out, unlinked}
 use Rattle.chain.proofs.Links.{next_above, before_below, on_ranged}
 
@@ -19,9 +19,6 @@ pub on_some : (before next : ℕ) (es es' : List ℕ) (b : ℕ) → (before ≡ 
 unfolding pointed_on
 on_some zero next es es' b d e w = absurd (d refl)
 on_some (suc k) next es es' b d e w = let s : suc k - 1 ≡ k = omega arith in w ∙ rw (e, s) refl
-
-pub gap_inside : (before : ℕ) (es : List ℕ) → Ranged es → before ≤ length es → (before ≡ 0 → ⊥) → gap_before es (before - 1) ≤ before - 1
-gap_inside before es r h d = r.back (before - 1) (omega (arith, d))
 
 pub is_below : (es : List ℕ) (i b : ℕ) → b ≡ before_of es i → b ≤ i
 is_below es i b e = omega (arith, e, before_below es i)
@@ -41,9 +38,6 @@ is_above es i n e = omega (arith, e, next_above es i)
 pub is_within : (es : List ℕ) (i n : ℕ) → Ranged es → i < length es → n ≡ next_of es i → n ≤ 2048
 is_within es i n r h e = omega (arith, e, r.ahead i h, r.short)
 
-pub is_short : (es : List ℕ) (i : ℕ) → Ranged es → i < length es → i < 2048
-is_short es i r h = omega (arith, r.short)
-
 -- ---- the blocks between: block after block
 pub led_none : (before next first : ℕ) (es : List ℕ) → es ≡ led before next first (first - first) es
 unfolding led
@@ -56,21 +50,12 @@ led_more before next first b es es' es₀ h e w =
     let k : first + suc (b - first) ≡ b + 1 = omega arith in
     w ∙ rw (s, k, e) refl
 
-pub led_out_is : (es es₁ es₂ es₃ : List ℕ) (at last before next : ℕ) → es₁ ≡ set es at (entry at before next) → es₂ ≡ set es₁ last (entry last before next) → es₃ ≡ led before next (at / 32) (last / 32 - at / 32) es₂ → es₃ ≡ led_out at last before next es
-led_out_is es es₁ es₂ es₃ at last before next a b c = c ∙ rw (b, a) refl
-
 -- ---- the two beside
 pub on_range : (es : List ℕ) (before next : ℕ) → Ranged es → before ≤ next → next ≤ length es → (es' : List ℕ) → es' ≡ pointed_on before next es → Ranged es'
 on_range es before next r h l es' w = rw w (on_ranged next es r (omega (arith, r.short)) before (omega arith) h l)
 
-pub mended_is : (es es₁ es₂ : List ℕ) (before next : ℕ) → es₁ ≡ pointed_on before next es → es₂ ≡ pointed_back before next es₁ → es₂ ≡ mended before next es
-mended_is es es₁ es₂ before next a b = b ∙ ap (pointed_back before next) a
-
 -- ---- all of it
 module _ (es : List ℕ) (at len : ℕ) (r : Ranged es) (some : 1 ≤ len) (within : at + len ≤ length es) where
-  pub gap_at : gap_before es at ≤ at
-  gap_at = r.back at (omega arith)
-
   module _ (last before next : ℕ) (l : last ≡ at + len - 1) (b : before ≡ before_of es at) (n : next ≡ next_of es last) where
     pub low : before ≤ at
     low = omega (arith, b, before_below es at)
@@ -78,7 +63,7 @@ module _ (es : List ℕ) (at len : ℕ) (r : Ranged es) (some : 1 ≤ len) (with
     pub high : last < next
     high = omega (arith, n, next_above es last)
 
-    pub inside : next ≤ length es
+    inside : next ≤ length es
     inside = omega (arith, n, r.ahead last (omega (arith, l)))
 
     pub ordered : before ≤ next

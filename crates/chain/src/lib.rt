@@ -14,6 +14,23 @@ pub struct Stretch<P> {
     pub to: P,
 }
 
+// The free words on either side of some words: one past the one before, and where the next one stands. That they lie within a chain, and
+// that no entry of it leads outside (`Ranged`), is asked by the functions that write one: it is of what is lent to them.
+#[derive(Clone, Copy)]
+struct Sides {
+    before: usize,
+    next: usize,
+    ghost ordered: { before ≤ next },
+}
+
+// The words of a sequence, and the chain of the free ones among them.
+#[derive(Clone, Copy)]
+pub struct FreeWords<'a> {
+    pub words: &'a [u32],
+    pub chain: &'a [u32],
+    ghost chained: { Chained words.now chain.now },
+}
+
 // Where the next free word after one stands, as its entry says; the end of the sequence where there is none.
 pub fn next_of(chain: &[u32], at: usize) -> usize
     requires { (at < length chain.now) × (at < 2048) }
@@ -30,65 +47,73 @@ pub fn before_of(chain: &[u32], at: usize) -> usize
     at - (chain[at] / 65536) as usize
 }
 
-// Sets an entry: one past the free word before, and where the next one stands.
-fn set_entry(chain: &mut [u32], at: usize, before: usize, next: usize)
-    requires { (at < length chain.old) × (before ≤ at) × (at < next) × (next ≤ 2048) }
-    ensures { chain.new ≡ set chain.old at (entry at before next) }
+// Sets an entry: it leads to the free words on either side.
+fn set_entry(chain: &mut [u32], at: usize, sides: Sides)
+    requires { (at < length chain.old) × (sides.before ≤ at) × (at < sides.next) × (sides.next ≤ 2048) }
+    ensures { chain.new ≡ set chain.old at (entry at sides.before sides.next) }
 {
-    chain[at] = (next - at - 1) as u32 + 65536 * ((at - before) as u32);
+    chain[at] = (sides.next - at - 1) as u32 + 65536 * ((at - sides.before) as u32);
 }
 
 // Points the free word before on to the next one, where there is one before.
-fn point_on(chain: &mut [u32], before: usize, next: usize)
-    requires { Ranged chain.old × (before ≤ length chain.old) × (before ≤ next) × (next ≤ 2048) }
-    ensures { chain.new ≡ pointed_on before next chain.old }
+fn point_on(chain: &mut [u32], sides: Sides)
+    requires { Ranged chain.old × (sides.before ≤ length chain.old) × (sides.next ≤ 2048) }
+    ensures { chain.new ≡ pointed_on sides.before sides.next chain.old }
 {
-    if before == 0 {
+    if sides.before == 0 {
         return;
     }
-    let at = before - 1;
-    set_entry(chain, at, before_of(chain, at), next);
+    let at = sides.before - 1;
+    let beside = Sides {
+        before: before_of(chain, at),
+        next: sides.next,
+    };
+    set_entry(chain, at, beside);
 }
 
 // Points the next free word back to the one before, where there is a next one.
-fn point_back(chain: &mut [u32], before: usize, next: usize)
-    requires { Ranged chain.old × (before ≤ next) }
-    ensures { chain.new ≡ pointed_back before next chain.old }
+fn point_back(chain: &mut [u32], sides: Sides)
+    requires { Ranged chain.old }
+    ensures { chain.new ≡ pointed_back sides.before sides.next chain.old }
 {
-    if chain.len() <= next {
+    if chain.len() <= sides.next {
         return;
     }
-    set_entry(chain, next, before, next_of(chain, next));
+    let beside = Sides {
+        before: sides.before,
+        next: next_of(chain, sides.next),
+    };
+    set_entry(chain, sides.next, beside);
 }
 
 // Has the first word of each block of 32 between two positions lead to the free words on either side, so that the chain can be entered there.
-fn lead_blocks(chain: &mut [u32], at: usize, last: usize, before: usize, next: usize)
-    requires { (last < length chain.old) × (before ≤ at) × (at ≤ last) × (last < next) × (next ≤ 2048) }
-    ensures { chain.new ≡ led before next (at / 32) (last / 32 - at / 32) chain.old }
+fn lead_blocks(chain: &mut [u32], at: usize, last: usize, sides: Sides)
+    requires { (last < length chain.old) × (sides.before ≤ at) × (at ≤ last) × (last < sides.next) × (sides.next ≤ 2048) }
+    ensures { chain.new ≡ led sides.before sides.next (at / 32) (last / 32 - at / 32) chain.old }
 {
     for block in at / 32..last / 32 {
-        set_entry(chain, 32 * (block + 1), before, next);
+        set_entry(chain, 32 * (block + 1), sides);
     }
 }
 
 // Has the free words on either side point to one another.
-fn mend(chain: &mut [u32], before: usize, next: usize)
-    requires { Ranged chain.old × (before ≤ next) × (next ≤ length chain.old) }
-    ensures { chain.new ≡ mended before next chain.old }
+fn mend(chain: &mut [u32], sides: Sides)
+    requires { Ranged chain.old × (sides.next ≤ length chain.old) }
+    ensures { chain.new ≡ mended sides.before sides.next chain.old }
 {
-    point_on(chain, before, next);
-    point_back(chain, before, next);
+    point_on(chain, sides);
+    point_back(chain, sides);
 }
 
 // Has the words from one position up to another, which are taken out, lead to the free words on either side: the first, the last, and
 // those of blocks between.
-fn lead(chain: &mut [u32], at: usize, last: usize, before: usize, next: usize)
-    requires { (last < length chain.old) × (before ≤ at) × (at ≤ last) × (last < next) × (next ≤ 2048) }
-    ensures { chain.new ≡ led_out at last before next chain.old }
+fn lead(chain: &mut [u32], at: usize, last: usize, sides: Sides)
+    requires { (last < length chain.old) × (sides.before ≤ at) × (at ≤ last) × (last < sides.next) × (sides.next ≤ 2048) }
+    ensures { chain.new ≡ led_out at last sides.before sides.next chain.old }
 {
-    set_entry(chain, at, before, next);
-    set_entry(chain, last, before, next);
-    lead_blocks(chain, at, last, before, next);
+    set_entry(chain, at, sides);
+    set_entry(chain, last, sides);
+    lead_blocks(chain, at, last, sides);
 }
 
 // Takes len words from a position on out of the chain.
@@ -99,33 +124,9 @@ pub fn unlink(chain: &mut [u32], at: usize, len: usize)
     let last = at + len - 1;
     let before = before_of(chain, at);
     let next = next_of(chain, last);
-    mend(chain, before, next);
-    lead(chain, at, last, before, next);
-}
-
-// The first position of the chain from one on; the end of the sequence where there is none. The walk goes where the entries lead, so it
-// is no count.
-pub fn free_from(words: &[u32], chain: &[u32], from: usize) -> usize
-    requires { Chained words.now chain.now × (from ≤ length words.now) }
-    ensures { First (Free words.now) from (length words.now) result }
-{
-    let mut at = from;
-    while at < words.len() && words[at] == 0 {
-        at = next_of(chain, at);
-    }
-    at
-}
-
-// One past the last position of the chain before one; 0 where there is none.
-fn free_before(words: &[u32], chain: &[u32], to: usize) -> usize
-    requires { Chained words.now chain.now × (to ≤ length words.now) }
-    ensures { Last (Free words.now) to result }
-{
-    let mut end = to;
-    while 0 < end && words[end - 1] == 0 {
-        end = before_of(chain, end - 1);
-    }
-    end
+    let sides = Sides { before, next };
+    mend(chain, sides);
+    lead(chain, at, last, sides);
 }
 
 // Whether the last 16 words are all 0. Every word is looked at, so that the compiler can take several at once.
@@ -167,33 +168,60 @@ fn zeros_from(words: &[u32]) -> usize
     }
 }
 
-// Where the stretch begins that ends with a free word: the words before it are joined to it as long as each has its neighbours for its
-// next and its previous one, which is an entry of 0.
-fn joined_from(chain: &[u32], last: usize) -> usize
-    requires { (last < length chain.now) × Ranged chain.now }
-    ensures { Joined chain.now last result }
-{
-    if before_of(chain, last) != last {
-        return last;
+impl<'a> FreeWords<'a> {
+    // The first position of the chain from one on; the end of the sequence where there is none. The walk goes where the entries lead, so
+    // it is no count.
+    pub fn free_from(&self, from: usize) -> usize
+        requires { from ≤ length self.now.words.now }
+        ensures { First (Free self.now.words.now) from (length self.now.words.now) result }
+    {
+        let mut at = from;
+        while at < self.words.len() && self.words[at] == 0 {
+            at = next_of(self.chain, at);
+        }
+        at
     }
-    let at = zeros_from(&chain[0..last]);
-    if at == 0 {
-        return 0;
-    }
-    at - 1
-}
 
-// The last stretch of free words before a position; an empty one at 0 where there is none.
-pub fn stretch_before(words: &[u32], chain: &[u32], end: usize) -> Stretch<usize>
-    requires { Chained words.now chain.now × (end ≤ length words.now) }
-    ensures { StretchBefore words.now end result.from result.to }
-{
-    let to = free_before(words, chain, end);
-    if to == 0 {
-        return Stretch { from: 0, to };
+    // One past the last position of the chain before one; 0 where there is none.
+    fn free_before(&self, to: usize) -> usize
+        requires { to ≤ length self.now.words.now }
+        ensures { Last (Free self.now.words.now) to result }
+    {
+        let mut end = to;
+        while 0 < end && self.words[end - 1] == 0 {
+            end = before_of(self.chain, end - 1);
+        }
+        end
     }
-    Stretch {
-        from: joined_from(chain, to - 1),
-        to,
+
+    // Where the stretch begins that ends with a free word: the words before it are joined to it as long as each has its neighbours for its
+    // next and its previous one, which is an entry of 0.
+    fn joined_from(&self, last: usize) -> usize
+        requires { last < length self.now.chain.now }
+        ensures { Joined self.now.chain.now last result }
+    {
+        if before_of(self.chain, last) != last {
+            return last;
+        }
+        let at = zeros_from(&self.chain[0..last]);
+        if at == 0 {
+            return 0;
+        }
+        at - 1
+    }
+
+    // The last stretch of free words before a position; an empty one at 0 where there is none.
+    pub fn stretch_before(&self, end: usize) -> Stretch<usize>
+        requires { end ≤ length self.now.words.now }
+        ensures { StretchBefore self.now.words.now end result.from result.to }
+    {
+        let to = self.free_before(end);
+        if to == 0 {
+            return Stretch { from: 0, to };
+        }
+        Stretch {
+            from: self.joined_from(to - 1),
+            to,
+        }
     }
 }

@@ -22,7 +22,8 @@ struct Walk {
     words: u32,
 }
 
-// Passes the next tiles, of the first count of a tile buffer, that have at least so many words.
+// Passes the next tiles, of the first count of a tile buffer, that have at least so many words. The answer counts them: of a slice that ends
+// with the last one each clause would have to take a third of the length.
 fn pass_long(tiles: &[u32], count: usize, least: u32, walk: Walk) -> Walk
     requires count_in_bounds { (3 * count ≤ length tiles.now) × (covered (tiles_in count tiles.now) ≤ 2048) }
     requires walked { Walked (tiles_in count tiles.now) least walk.passed walk.words }

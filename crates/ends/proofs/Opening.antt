@@ -1,7 +1,7 @@
 -- From two sequences to the first state of a comparison. Pattern and text are copied to the start of the workspace, their words replaced, so
 -- the first state is theirs but for retired calls, and all words are free.
 -- Assumes nothing.
-use Prim.Native.Nat.{ℕ, ◌+◌, ◌-◌, ◌*◌, ◌≤◌, ◌<◌, min}
+use Prim.Native.Nat.{ℕ, ◌+◌, ◌*◌, ◌≤◌, ◌<◌, min}
 use native.Mathlib.Omega.{arith}
 use mathlib.Core.Path.{◌≡◌, refl, sym, ◌∙◌, ap, subst}
 use mathlib.Core.Bool.{Bool, true, false}
@@ -12,13 +12,12 @@ use Rattle.symbol.specs.Word.{is_call, replaced}
 use Rattle.symbol.specs.Sequence.{all_sound, none_retired}
 use Rattle.symbol.proofs.Sequence.{get_or_replaced, none_current, sound_not_zero}
 use Rattle.buffer.specs.Buffer.{onto}
-use Rattle.buffer.proofs.Buffer.{length_onto, onto_part, Copied, copied_none, copied_more, copied_all}
+use Rattle.buffer.proofs.Buffer.{length_onto, Copied, copied_more}
 use Rattle.tiling.specs.Tiling.{State, start, tiling, replaced_in, AllCurrent}
 use Rattle.tiling.specs.Comparing.{Comparable}
 use Rattle.tiling.specs.Choice.{first_is_pattern, pattern_of, text_of}
 use Rattle.tiling.specs.Stretch.{if_long, fillable}
 use Rattle.tiling.specs.Listing.{listing}
-use Rattle.tiling.specs.Run.{mark}
 use Rattle.tiling.proofs.Run.{length_mark, mark_inside}
 use Rattle.tiling.proofs.Tally.{tally_length}
 use Rattle.tiling.proofs.Choice.{first_shorter, second_shorter}
@@ -37,26 +36,13 @@ use Rattle.ends.specs.Ends.{begun, Opened, no_tiles}
 use Rattle.ends.specs.Result.{Room}
 
 -- ---- copying in
-pub copied_in : (pattern text ws ws₁ part : List ℕ) → ws₁ ≡ onto (map replaced pattern) ws → part ≡ onto (map replaced text) (take (length pattern + length text - length pattern) (drop (length pattern) ws₁)) → take (length pattern) ws₁ ++ (part ++ drop (length pattern + length text - length pattern) (drop (length pattern) ws₁)) ≡ onto (map replaced pattern ++ map replaced text) ws
-copied_in pattern text ws ws₁ part e k =
-    let n : length pattern + length text - length pattern ≡ length (map replaced text) = omega (arith, length-map text replaced) in
-    rw (k, n, e) (onto_part (map replaced pattern) (map replaced text) ws (length pattern) (length-map pattern replaced))
-
-pub begun_is : (pattern text ws ws₁ ws₂ : List ℕ) → ws₁ ≡ onto (map replaced pattern ++ map replaced text) ws → ws₂ ≡ mark (3 * (length pattern + length text)) (length pattern + length text) ws₁ → ws₂ ≡ begun pattern text ws
-begun_is pattern text ws ws₁ ws₂ a b = b ∙ ap (mark (3 * (length pattern + length text)) (length pattern + length text)) a
 
 -- Words without a retired call are their own replacements; others are replaced one by one.
 pub copied_same : (words b b' : List ℕ) (r : Bool) → r ≡ none_retired words → r ≡ true → b' ≡ onto words b → b' ≡ onto (map replaced words) b
 copied_same words b b' r e t k = rw (none_current words (sym e ∙ t)) k
 
-pub copied_start : (words b : List ℕ) → length words ≤ length b → Copied (map replaced words) b b 0
-copied_start words b h = copied_none (map replaced words) b (rw (length-map words replaced) h)
-
 pub copied_word : (words b₀ b : List ℕ) (i w : ℕ) → Copied (map replaced words) b₀ b i → i < length words → w ≡ replaced (get_or words i 0) → Copied (map replaced words) b₀ (set b i w) (i + 1)
 copied_word words b₀ b i w r h e = rw (e, ← get_or_replaced words i) (copied_more (map replaced words) b₀ b i r (rw (length-map words replaced) h))
-
-pub copied_whole : (words b₀ b : List ℕ) (i : ℕ) → Copied (map replaced words) b₀ b i → length words ≤ i → b ≡ onto (map replaced words) b₀
-copied_whole words b₀ b i r h = copied_all (map replaced words) b₀ b i r (rw (length-map words replaced) h)
 
 -- ---- which sequence is the pattern
 module _ (first second : List ℕ) (minimum : ℕ) (b : Bool) (e : b ≡ first_is_pattern first second) (ws ws' : List ℕ) where
@@ -192,9 +178,6 @@ module _ (first second : List ℕ) (minimum : ℕ) (goal : Goal) (ws b : List �
   abbrev text : List ℕ
   text = text_of first second
 
-  pub open_room : 4 * (length first + length second) ≤ length ws
-  open_room = room.work_room
-
   -- All words of the pattern are free.
   all_free : fillable minimum (map replaced pattern) ≡ if_long minimum (length pattern)
   all_free =
@@ -248,7 +231,3 @@ module _ (first second : List ℕ) (minimum : ℕ) (goal : Goal) (ws b : List �
           free = omega (arith, tally_length is_call (take (length pattern) ws₁), length-take (length pattern) ws₁);
           left = rw o.job at left;
         })
-
--- The record of a comparison that was just opened.
-pub unlaid_is : (j : Job) (goal : Goal) (n : ℕ) → n ≡ if_long j.minimum j.n → record { count = 0; covered = 0; fillable = n; goal = goal } ≡ no_tiles j goal
-unlaid_is j goal n e = ap (λ x. record { count = 0; covered = 0; fillable = x; goal = goal }) e

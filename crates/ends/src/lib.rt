@@ -80,7 +80,8 @@ pub fn whole() -> Goal
     }
 }
 
-// Chooses the pattern, by the words as handed in, puts pattern and text to the start of the workspace, and links their words.
+// Chooses the pattern, by the words as handed in, puts pattern and text to the start of the workspace, and links their words. It asks
+// nothing of the sequences or of the minimum, as a pair of checked ones would.
 pub fn open(first: &[u32], second: &[u32], minimum: usize, ws: &mut [u32]) -> Job
     requires { 4 * (length first.now + length second.now) ≤ length ws.old }
     ensures { Opened first.now second.now minimum ws.old result ws.new }

@@ -7,7 +7,7 @@ use native.Mathlib.Omega.{arith}
 use mathlib.Core.Path.{◌≡◌, refl, sym, ◌∙◌, ap}
 use mathlib.Core.Bool.{Bool, true, false, ◌&&◌}
 use mathlib.Core.List.{List}
-use borrow.Author.Tests.{lt-ltb, le-leb, lt-leb, eq-eqb, ne_eqb}
+use borrow.Author.Tests.{eq-eqb, ne_eqb}
 use lib.Dec.{leb, ltb, eqb}
 use Rattle.symbol.proofs.Word.{and_right}
 use lib.ListN.{length, drop, get_or, set, get_or-eq_default}
@@ -58,26 +58,10 @@ module _ (x : Pass) (ws ws' hs fs : List ℕ) (t : ℕ) (same : state x.job ws' 
       }
 
 -- ---- one window, as the code goes through it
-pub entered_busy : (x : Pass) (t free : ℕ) (ws hs fs : List ℕ) → free < x.s → Entered x t free ws hs fs ws hs fs
-entered_busy x t free ws hs fs less =
-    let e : leb x.s free ≡ false = lt-leb x.s free less in
-    record { words = rw e refl; heads = rw e refl; filter = rw e refl; known = λ z. absurd (let k : ◌≡◌ {A = ℕ} 0 1 = (let f : false ≡ true = rw e at z in cc) in omega arith) }
 
 module _ (x : Pass) (t free : ℕ) (ws hs fs : List ℕ) (long : x.s ≤ free) (h e : ℕ) (eh : h ≡ text_hash x.job ws t) (ee : e ≡ get_or fs (slot h) 0) where
   entry : e ≡ get_or fs (slot (text_hash x.job ws t)) 0
   entry = ee ∙ ap (λ z. get_or fs (slot z) 0) eh
-
-  pub entered_unknown : e ≡ 0 → Entered x t free ws hs fs ws hs fs
-  entered_unknown z =
-      let k : takes x free (get_or fs (slot (text_hash x.job ws t)) 0) ≡ false = rw (← entry, z, le-leb x.s free long) refl in
-      record { words = rw k refl; heads = rw k refl; filter = rw k refl; known = λ y. absurd (let o : ◌≡◌ {A = ℕ} 0 1 = (let f : false ≡ true = sym k ∙ y in cc) in omega arith) }
-
-  pub entered_new : (e ≡ 0 → ⊥) → (b : ℕ) → b ≡ bucket x.buckets h → (k : ℕ) → k ≡ slot h → k < length fs → (ws' : List ℕ) → ws' ≡ set ws (bounds_from x.job + x.job.n + t) (get_or hs b 0) → Entered x t free ws hs fs ws' (set hs b t) (set fs k 2)
-  entered_new some b eb k ek room ws' ew =
-      let taken : takes x free (get_or fs (slot (text_hash x.job ws t)) 0) ≡ true = rw (← entry, le-leb x.s free long) (lt-ltb 0 e (omega (arith, some))) in
-      let c : b ≡ bucket x.buckets (text_hash x.job ws t) = eb ∙ ap (bucket x.buckets) eh in
-      let d : k ≡ slot (text_hash x.job ws t) = ek ∙ ap slot eh in
-      record { words = rw (taken, ← c) ew; heads = rw (taken, ← c) refl; filter = rw (taken, ← d) refl; known = λ y. rw (← d) (get_or-set_same fs k 2 0 room) }
 
 -- ---- the windows of a stretch that begins at `from`
 pub record Backward (x : Pass) (from : ℕ) (ws₀ ws hs fs : List ℕ) (t free : ℕ) : Type 0 where
@@ -91,21 +75,6 @@ pub record Backward (x : Pass) (from : ℕ) (ws₀ ws hs fs : List ℕ) (t free 
   pub links : (u : ℕ) → t ≤ u → u < x.job.m → listed x ws₀ u ≡ true → link x.job ws u ≡ next_in x ws₀ (bucket x.buckets (text_hash x.job ws₀ u)) (u + 1)
   pub entries : (i : ℕ) → i < 4096 → get_or fs i 0 ≡ entry_of (raised_from x ws₀ i 0) (linked_from x ws₀ i t)
   pub count : free ≡ free_at x.job ws t
-
-pub backward_none : (x : Pass) (from : ℕ) (ws hs fs : List ℕ) (t : ℕ) → Space x.job ws → from ≤ t → 0 ≡ free_at x.job ws t → LinkedFrom x ws hs fs t → Backward x from ws ws hs fs t 0
-backward_none x from ws hs fs t space low none r =
-    record {
-      low = low;
-      within = r.within;
-      space = space;
-      same = refl;
-      of_pattern = λ p l. refl;
-      of_text = λ u l. refl;
-      heads = r.heads;
-      links = r.links;
-      entries = r.entries;
-      count = none;
-    }
 
 -- An entry is above 0 just where the pattern has a window with it.
 entry_some : (r l : Bool) → ltb 0 (entry_of r l) ≡ r
@@ -273,9 +242,6 @@ module _ (x : Pass) (from : ℕ) (ws₀ ws hs fs : List ℕ) (t free : ℕ) (i :
 
     pub backward_inside : t - 1 < x.job.m
     backward_inside = omega (arith, i.within)
-
-    pub backward_free : free ≡ free_at x.job ws (t - 1 + 1)
-    backward_free = rw back i.count
 
     pub backward_more : (x' : Pass) → x' ≡ x → (r : ℕ) → r ≡ free_at x.job ws (t - 1) → (ws' hs' fs' : List ℕ) → Entered x (t - 1) r ws hs fs ws' hs' fs' → length ws' ≡ length ws → Backward x' from ws₀ ws' hs' fs' (t - 1) r
     backward_more x' k r f ws' hs' fs' e same =

@@ -32,9 +32,6 @@ pub record Raising (x : Pass) (ws fs : List ℕ) (from p : ℕ) : Type 0 where
   pub raised : RaisedFrom x ws fs p
 
 module _ (x : Pass) (ws fs : List ℕ) (from p : ℕ) (r : Raising x ws fs from p) where
-  pub raising_inside : from < p → Space x.job ws → p - 1 < x.job.n + x.job.m
-  raising_inside above space = omega (arith, r.raised.within)
-
   pub raising_more : from < p → Space x.job ws → (to : ℕ) → p ≤ to → ((q : ℕ) → from ≤ q → q < to → AllFree x.s (state x.job ws).pattern q) → (h k : ℕ) (fs' : List ℕ) → h ≡ pattern_hash x.job ws (p - 1) → k ≡ slot h → k < length fs → fs' ≡ set fs k 1 → Raising x ws fs' from (p - 1)
   raising_more above space to high free h k fs' eh ek room ef =
       record {
@@ -62,9 +59,6 @@ module _ (x : Pass) (ws fs : List ℕ) (from p : ℕ) (r : Raising x ws fs from 
           let not_here : raises x ws i (p - 1) ≡ false = rw (is_free, ne_eqb (slot (pattern_hash x.job ws (p - 1))) i (λ z. d (sym z ∙ at))) refl in
           rw (some_later (raises x ws i) (p - 1) x.job.n inside not_here, back, ef)
           (get_or-set_other fs k i 1 0 d ∙ r.raised.entries i l)
-
-  pub raising_all : p ≤ from → RaisedFrom x ws fs from
-  raising_all h = let e : from ≡ p = omega (arith, r.low) in rw e r.raised
 
 -- ---- windows with a marked word are passed over
 raised_skip : (x : Pass) (ws fs : List ℕ) (a b : ℕ) → a ≤ b → ((q : ℕ) → a ≤ q → q < b → Busy x.s (state x.job ws).pattern q) → RaisedFrom x ws fs b → RaisedFrom x ws fs a

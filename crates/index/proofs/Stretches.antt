@@ -52,7 +52,3 @@ module _ (xs : List ℕ) (end from to : ℕ) (w : Walk xs end) (b : StretchBefor
           w.edge (omega (arith, d)) l (rw e at (b.free (to - 1) (omega (arith, b.some some)) (omega arith)))
       closed (yes d) (no l) free = end_marked xs to (omega (arith, d, l)) free
       closed (no d) l free = b.past to (omega arith) (omega (arith, d, b.within)) free
-
--- A stretch that a window fits into is one.
-pub stretch_long : (xs : List ℕ) (s from to : ℕ) → (0 < to → Stretched xs from to) → 1 ≤ s → s ≤ to - from → Stretched xs from to
-stretch_long xs s from to st least long = st (omega arith)

@@ -1,5 +1,5 @@
 -- The index of a pass as it is built. No reader of the engines' contracts needs it.
-use Rattle.std.specs.Prelude.{ℕ, zero, suc, ◌+◌, ◌-◌, ◌%◌, ◌^◌, ◌≤◌, ◌<◌, ◌≡◌, Bool, true, false, ◌&&◌, List, leb, ltb, eqb, length, take, drop, get_or, set}
+use Rattle.std.specs.Prelude.{ℕ, zero, suc, ◌+◌, ◌-◌, ◌≤◌, ◌<◌, ◌≡◌, Bool, true, false, ◌&&◌, List, leb, ltb, eqb, length, take, drop, get_or, set}
 use Rattle.tiling.specs.Run.{run}
 use Rattle.tiling.specs.Stretch.{free_first}
 use Rattle.chain.specs.Chain.{Free}
@@ -56,10 +56,6 @@ abbrev pub entry_of : Bool → Bool → ℕ
 entry_of false linked = 0
 entry_of true false = 1
 entry_of true true = 2
-
--- The power of the multiplier that the first word of a window has.
-abbrev pub weight_of : Pass → ℕ
-weight_of x = x.multiplier ^ (x.s - 1) % 2 ^ 32
 
 -- The windows of `count` words from `from` on were hashed, and all else is as it was.
 pub record PartHashed (x : Pass) (from count : ℕ) (ws ws' : List ℕ) : Type 0 where

@@ -6,7 +6,7 @@ ghost use Rattle.std.specs.Prelude.{◌≡◌, ℕ, ◌+◌, ◌-◌, ◌≤◌,
 ghost use Rattle.window.specs.Hash.{bucket};
 ghost use Rattle.bounds.specs.Workspace.{Space, state, bounds_from};
 ghost use Rattle.index.specs.Indexed.{pattern_hash, text_hash, link, slot, place};
-ghost use Rattle.index.specs.Built.{free_at, AllFree, weight_of, PartHashed, Stretched, RaisedFrom, RowsFrom, Entered, LinkedFrom, Linked, TextsFrom, Built};
+ghost use Rattle.index.specs.Built.{free_at, AllFree, PartHashed, Stretched, RaisedFrom, RowsFrom, Entered, LinkedFrom, Linked, TextsFrom, Built};
 
 mod pass;
 
@@ -75,8 +75,8 @@ pub fn next_text(view: &View, t: TextAt) -> TextAt
 }
 
 // Hashes the windows of some of the words of the two sequences, which stand side by side.
-fn hash_part(ws: &mut [u32], pass: Pass, weight: u32, from: usize, count: usize)
-    requires { Space pass.job ws.old × (weight ≡ weight_of pass) × (pass.s ≤ count) × (from + count ≤ pass.job.n + pass.job.m) }
+fn hash_part(ws: &mut [u32], pass: Pass, from: usize, count: usize)
+    requires { Space pass.job ws.old × (pass.s ≤ count) × (from + count ≤ pass.job.n + pass.job.m) }
     ensures { PartHashed pass from count ws.old ws.new }
 {
     let words = pass.job.n + pass.job.m;
@@ -84,7 +84,7 @@ fn hash_part(ws: &mut [u32], pass: Pass, weight: u32, from: usize, count: usize)
         &mut ws[from..],
         count,
         words,
-        weight,
+        pass.weight,
         pass.multiplier,
         pass.s,
     );
@@ -148,8 +148,8 @@ impl Index {
     }
 
     // Hashes the windows of a stretch of the pattern, which is long enough for one, and sets their entries.
-    fn enter_rows(&mut self, ws: &mut [u32], weight: u32, rows: Stretch<PatternAt>)
-        requires { (weight ≡ weight_of self.old.pass) × Stretched (state self.old.pass.job ws.old).pattern rows.from.0 rows.to.0 × (self.old.pass.s ≤ rows.to.0 - rows.from.0) × RowsFrom self.old.pass ws.old self.old.filter rows.to.0 }
+    fn enter_rows(&mut self, ws: &mut [u32], rows: Stretch<PatternAt>)
+        requires { Stretched (state self.old.pass.job ws.old).pattern rows.from.0 rows.to.0 × (self.old.pass.s ≤ rows.to.0 - rows.from.0) × RowsFrom self.old.pass ws.old self.old.filter rows.to.0 }
         ensures pass_kept { self.new.pass ≡ self.old.pass }
         ensures heads_kept { self.new.heads ≡ self.old.heads }
         ensures state_unchanged { state self.new.pass.job ws.new ≡ state self.old.pass.job ws.old }
@@ -157,13 +157,13 @@ impl Index {
     {
         let from = rows.from.0;
         let to = rows.to.0;
-        hash_part(ws, self.pass, weight, from, to - from);
+        hash_part(ws, self.pass, from, to - from);
         self.raise_rows(ws, rows.from, PatternAt(to + 1 - self.pass.s));
     }
 
     // Hashes the windows of a stretch of the pattern and sets their entries; where the stretch is too short it has none.
-    fn hash_row_stretch(&mut self, ws: &mut [u32], weight: u32, rows: Stretch<PatternAt>)
-        requires { (weight ≡ weight_of self.old.pass) × (rows.from.0 ≤ rows.to.0) × (0 < rows.to.0 → Stretched (state self.old.pass.job ws.old).pattern rows.from.0 rows.to.0) × RowsFrom self.old.pass ws.old self.old.filter rows.to.0 }
+    fn hash_row_stretch(&mut self, ws: &mut [u32], rows: Stretch<PatternAt>)
+        requires { (rows.from.0 ≤ rows.to.0) × (0 < rows.to.0 → Stretched (state self.old.pass.job ws.old).pattern rows.from.0 rows.to.0) × RowsFrom self.old.pass ws.old self.old.filter rows.to.0 }
         ensures pass_kept { self.new.pass ≡ self.old.pass }
         ensures heads_kept { self.new.heads ≡ self.old.heads }
         ensures state_unchanged { state self.new.pass.job ws.new ≡ state self.old.pass.job ws.old }
@@ -172,13 +172,13 @@ impl Index {
         if rows.to.0 - rows.from.0 < self.pass.s {
             return;
         }
-        self.enter_rows(ws, weight, rows);
+        self.enter_rows(ws, rows);
     }
 
     // Hashes the windows of the pattern that are free, stretch by stretch, and sets their entries. `link_windows` goes through the text
     // likewise: a walk that both call would take what a stretch needs and keeps as contracts of a closure, and is no shorter.
-    fn hash_rows(&mut self, ws: &mut [u32], weight: u32)
-        requires { Space self.old.pass.job ws.old × (weight ≡ weight_of self.old.pass) × (self.old.filter ≡ replicate 4096 0) }
+    fn hash_rows(&mut self, ws: &mut [u32])
+        requires { Space self.old.pass.job ws.old × (self.old.filter ≡ replicate 4096 0) }
         ensures pass_kept { self.new.pass ≡ self.old.pass }
         ensures heads_kept { self.new.heads ≡ self.old.heads }
         ensures state_unchanged { state self.new.pass.job ws.new ≡ state self.old.pass.job ws.old }
@@ -191,7 +191,7 @@ impl Index {
                 words: ws,
             };
             let rows = view.rows_before(end);
-            self.hash_row_stretch(ws, weight, rows);
+            self.hash_row_stretch(ws, rows);
             end = rows.from;
         }
     }
@@ -238,21 +238,21 @@ impl Index {
     }
 
     // Hashes and links the windows of a stretch of the text, which is long enough for one.
-    fn enter_texts(&mut self, ws: &mut [u32], weight: u32, texts: Stretch<TextAt>)
-        requires { (weight ≡ weight_of self.old.pass) × Stretched (state self.old.pass.job ws.old).text texts.from.0 texts.to.0 × (self.old.pass.s ≤ texts.to.0 - texts.from.0) × TextsFrom self.old.pass ws.old self.old.heads self.old.filter texts.to.0 }
+    fn enter_texts(&mut self, ws: &mut [u32], texts: Stretch<TextAt>)
+        requires { Stretched (state self.old.pass.job ws.old).text texts.from.0 texts.to.0 × (self.old.pass.s ≤ texts.to.0 - texts.from.0) × TextsFrom self.old.pass ws.old self.old.heads self.old.filter texts.to.0 }
         ensures pass_kept { self.new.pass ≡ self.old.pass }
         ensures state_unchanged { state self.new.pass.job ws.new ≡ state self.old.pass.job ws.old }
         ensures texts_from { TextsFrom self.new.pass ws.new self.new.heads self.new.filter texts.from.0 }
     {
         let from = texts.from.0;
         let pass = self.pass;
-        hash_part(ws, pass, weight, pass.job.n + from, texts.to.0 - from);
+        hash_part(ws, pass, pass.job.n + from, texts.to.0 - from);
         self.link_stretch(ws, texts);
     }
 
     // Hashes and links the windows of a stretch of the text; where the stretch is too short it has none.
-    fn link_text_stretch(&mut self, ws: &mut [u32], weight: u32, texts: Stretch<TextAt>)
-        requires { (weight ≡ weight_of self.old.pass) × (texts.from.0 ≤ texts.to.0) × (0 < texts.to.0 → Stretched (state self.old.pass.job ws.old).text texts.from.0 texts.to.0) × TextsFrom self.old.pass ws.old self.old.heads self.old.filter texts.to.0 }
+    fn link_text_stretch(&mut self, ws: &mut [u32], texts: Stretch<TextAt>)
+        requires { (texts.from.0 ≤ texts.to.0) × (0 < texts.to.0 → Stretched (state self.old.pass.job ws.old).text texts.from.0 texts.to.0) × TextsFrom self.old.pass ws.old self.old.heads self.old.filter texts.to.0 }
         ensures pass_kept { self.new.pass ≡ self.old.pass }
         ensures state_unchanged { state self.new.pass.job ws.new ≡ state self.old.pass.job ws.old }
         ensures texts_from { TextsFrom self.new.pass ws.new self.new.heads self.new.filter texts.from.0 }
@@ -260,12 +260,12 @@ impl Index {
         if texts.to.0 - texts.from.0 < self.pass.s {
             return;
         }
-        self.enter_texts(ws, weight, texts);
+        self.enter_texts(ws, texts);
     }
 
     // Hashes and links the text's windows that are free, stretch by stretch, from right to left, so that each chain rises.
-    fn link_windows(&mut self, ws: &mut [u32], weight: u32)
-        requires { (weight ≡ weight_of self.old.pass) × (self.old.heads ≡ replicate 1024 2048) × RowsFrom self.old.pass ws.old self.old.filter 0 }
+    fn link_windows(&mut self, ws: &mut [u32])
+        requires { (self.old.heads ≡ replicate 1024 2048) × RowsFrom self.old.pass ws.old self.old.filter 0 }
         ensures pass_kept { self.new.pass ≡ self.old.pass }
         ensures state_unchanged { state self.new.pass.job ws.new ≡ state self.old.pass.job ws.old }
         ensures texts_from { TextsFrom self.new.pass ws.new self.new.heads self.new.filter 0 }
@@ -277,7 +277,7 @@ impl Index {
                 words: ws,
             };
             let texts = view.text_before(end);
-            self.link_text_stretch(ws, weight, texts);
+            self.link_text_stretch(ws, texts);
             end = texts.from;
         }
     }
@@ -289,8 +289,7 @@ impl Index {
         ensures pass_kept { self.new.pass ≡ self.old.pass }
         ensures built { Built self.old.pass ws.old ws.new self.new.heads self.new.filter }
     {
-        let weight = window::power(self.pass.multiplier, self.pass.s - 1);
-        self.hash_rows(ws, weight);
-        self.link_windows(ws, weight);
+        self.hash_rows(ws);
+        self.link_windows(ws);
     }
 }

@@ -1,7 +1,7 @@
 -- Which length is taken: by how many of some windows differ, and by what is left after a pass.
 -- Assumes nothing.
 use Prim.Native.Nat.{ℕ, zero, suc, ◌+◌, ◌-◌, ◌*◌, ◌/◌, ◌%◌, ◌^◌, ◌≤◌, ◌<◌, min, max}
-use native.Mathlib.Nat.{pow-zero, pow-suc}
+use native.Mathlib.Nat.{pow-suc}
 use native.Mathlib.Numerals.{add-one}
 use native.Mathlib.Decide.{dec_lt}
 use native.Mathlib.Omega.{arith}
@@ -30,13 +30,6 @@ pub record Next (minimum s r : ℕ) : Type 0 where
 doubled : (n : ℕ) → 2 ^ (n + 1) ≡ 2 ^ n * 2
 doubled n = rw (add-one n) (pow-suc 2 n)
 
-powers : (n : ℕ) → n ≤ 3 → 2 ^ n ≤ 8
-powers zero h = omega (arith, pow-zero 2)
-powers (suc zero) h = omega arith
-powers (suc (suc zero)) h = omega arith
-powers (suc (suc (suc zero))) h = omega arith
-powers (suc (suc (suc (suc n)))) h = absurd (omega arith)
-
 -- ---- a short length
 pub pays_not : (ws : List ℕ) (b s : ℕ) → 8 < s → false ≡ worthwhile ws b s
 unfolding worthwhile
@@ -48,13 +41,9 @@ pays_by ws b s d h e = rw (worthwhile, le-leb s 8 h, e) refl
 
 -- What is tried from s on, with so many tries left, is what was to be tried from the start.
 pub record Trying (ws : List ℕ) (b given i s : ℕ) : Type 0 where
-  pub short : length ws ≤ 2048
   pub some : 1 ≤ s
   pub small : s ≤ 4096 * 2 ^ i
   pub same : short_length ws b s (3 - i) ≡ short_length ws b given 3
-
-pub trying_none : (ws : List ℕ) (b given : ℕ) → length ws ≤ 2048 → 1 ≤ given → given ≤ 4096 → Trying ws b given 0 given
-trying_none ws b given h o l = record { short = h; some = o; small = omega arith; same = refl }
 
 module _ (ws : List ℕ) (b given i s : ℕ) (c : Trying ws b given i s) where
   pub trying_done : 3 ≤ i → 0 ≡ short_length ws b given 3
@@ -74,10 +63,7 @@ module _ (ws : List ℕ) (b given i s : ℕ) (c : Trying ws b given i s) where
     trying_more h =
         let k : worthwhile ws b s ≡ false = sym ex ∙ h in
         let e : short_length ws b s (suc (3 - (i + 1))) ≡ short_length ws b (s * 2) (3 - (i + 1)) = rw (short_length, k) refl in
-        record { short = c.short; some = omega (arith, c.some); small = omega (arith, c.small, doubled i); same = sym e ∙ tried }
-
-  pub trying_room : i < 3 → s * 2 < 2 ^ 64
-  trying_room h = omega (arith, c.small, powers i (omega arith))
+        record { some = omega (arith, c.some); small = omega (arith, c.small, doubled i); same = sym e ∙ tried }
 
 -- ---- the first length
 -- One try.
@@ -97,13 +83,9 @@ module _ (ws : List ℕ) (b minimum s few n : ℕ) where
 -- What is tried from s on, with so many tries left, is what was to be tried from the start.
 pub record Climbing (ws : List ℕ) (b minimum given few i s before : ℕ) : Type 0 where
   pub within : i ≤ 3
-  pub short : length ws ≤ 2048
   pub some : 1 ≤ s
   pub small : s ≤ 2048 * 2 ^ i
   pub same : climbed ws b minimum s before (3 - i) ≡ climbed ws b minimum given few 3
-
-pub climbing_none : (ws : List ℕ) (b minimum given few : ℕ) → length ws ≤ 2048 → 1 ≤ given → given ≤ 2048 → Climbing ws b minimum given few 0 given few
-climbing_none ws b minimum given few h o l = record { within = omega arith; short = h; some = o; small = omega arith; same = refl }
 
 module _ (ws : List ℕ) (b minimum given few i s before : ℕ) (c : Climbing ws b minimum given few i s before) where
   pub climbing_done : 3 ≤ i → (l r : ℕ) → l ≡ min (s / 4) 2048 → r ≡ max minimum l → r ≡ climbed ws b minimum given few 3
@@ -130,10 +112,7 @@ module _ (ws : List ℕ) (b minimum given few i s before : ℕ) (c : Climbing ws
       pub climbing_more : before < d → Climbing ws b minimum given few (i + 1) (s * 2) d
       climbing_more h =
           let k : leb (different ws b s) before ≡ false = rw (← ed) (lt-leb d before h) in
-          record { within = omega arith; short = c.short; some = omega (arith, c.some); small = omega (arith, c.small, doubled i); same = ap (λ z. climbed ws b minimum (s * 2) z (3 - (i + 1))) ed ∙ (sym (try_more ws b minimum s before (3 - (i + 1)) not_many k) ∙ opened) }
-
-  pub climbing_room : s * 2 < 2 ^ 64
-  climbing_room = omega (arith, c.small, powers i c.within)
+          record { within = omega arith; some = omega (arith, c.some); small = omega (arith, c.small, doubled i); same = ap (λ z. climbed ws b minimum (s * 2) z (3 - (i + 1))) ed ∙ (sym (try_more ws b minimum s before (3 - (i + 1)) not_many k) ∙ opened) }
 
 module _ (ws : List ℕ) (b minimum given few short : ℕ) (es : short ≡ short_length ws b (2 * minimum) 3) where
   pub longer_short : 0 < short → short ≡ longer_length ws b minimum given few

@@ -1,7 +1,6 @@
 -- Some windows, marked by their places from the last to the first and then counted.
 -- Assumes nothing.
-use Prim.Native.Nat.{ℕ, zero, suc, ◌+◌, ◌-◌, ◌*◌, ◌/◌, ◌^◌, ◌≤◌, ◌<◌, min, max}
-use native.Mathlib.Nat.{le-div_iff_mul-le}
+use Prim.Native.Nat.{ℕ, zero, suc, ◌+◌, ◌-◌, ◌*◌, ◌/◌, ◌≤◌, ◌<◌, min, max}
 use native.Mathlib.Decide.{dec_lt, ℕ_discrete}
 use native.Mathlib.Numerals.{add-one}
 use native.Mathlib.Omega.{arith}
@@ -25,37 +24,20 @@ pub record Marking (ws : List ℕ) (b s step : ℕ) (marked : List ℕ) (i : ℕ
   pub some : 1 ≤ step
   pub long : 1 ≤ s
   pub fits : s ≤ length ws
-  pub short : length ws ≤ 2048
   pub within : i ≤ samples ws s step
   pub entries : (k : ℕ) → k < 1024 → get_or marked k 0 ≡ one (some_taken ws b s step k i)
 
-pub marking_none : (ws : List ℕ) (b s step : ℕ) (marked : List ℕ) → 1 ≤ step → 1 ≤ s → s ≤ length ws → length ws ≤ 2048 → marked ≡ replicate 1024 0 → (r : ℕ) → r ≡ min ((length ws - s) / step) 63 → Marking ws b s step marked (r + 1)
-marking_none ws b s step marked h o f l e r er =
+pub marking_none : (ws : List ℕ) (b s step : ℕ) (marked : List ℕ) → 1 ≤ step → 1 ≤ s → s ≤ length ws → marked ≡ replicate 1024 0 → (r : ℕ) → r ≡ min ((length ws - s) / step) 63 → Marking ws b s step marked (r + 1)
+marking_none ws b s step marked h o f e r er =
     record {
       some = h;
       long = o;
       fits = f;
-      short = l;
       within = omega (arith, er);
       entries = λ k m. rw (er, some_none (taken ws b s step k) (samples ws s step), e) (get_or-replicate {A = ℕ} 1024 k 0 0 m);
     }
 
 module _ (ws : List ℕ) (b s step : ℕ) (marked : List ℕ) (i : ℕ) (m : Marking ws b s step marked i) (above : 0 < i) where
-  -- The window lies within the words.
-  pub marking_inside : (i - 1) * step + s ≤ length ws
-  marking_inside =
-      let h : i - 1 ≤ (length ws - s) / step = omega (arith, m.within) in
-      omega (arith, (le-div_iff_mul-le m.some).0 h, m.fits)
-
-  pub marking_room : (i - 1) * step < 2 ^ 64
-  marking_room = omega (arith, marking_inside, m.short)
-
-  pub marking_bytes : (at : ℕ) → at ≡ (i - 1) * step → at * 4 < 2 ^ 64
-  marking_bytes at e = omega (arith, marking_inside, m.short, e)
-
-  pub marking_part : (at : ℕ) → at ≡ (i - 1) * step → at + s ≤ length ws
-  marking_part at e = omega (arith, marking_inside, e)
-
   back : i - 1 + 1 ≡ i
   back = omega arith
 
@@ -64,7 +46,7 @@ module _ (ws : List ℕ) (b s step : ℕ) (marked : List ℕ) (i : ℕ) (m : Mar
 
   pub marking_more : (at h k : ℕ) → at ≡ (i - 1) * step → h ≡ words_hash b (take (at + s - at) (drop at ws)) → k ≡ place h → k < length marked → Marking ws b s step (set marked k 1) (i - 1)
   marking_more at h k ea eh ek inside =
-      record { some = m.some; long = m.long; fits = m.fits; short = m.short; within = omega (arith, m.within); entries = λ c l. entries c l (ℕ_discrete c k) }
+      record { some = m.some; long = m.long; fits = m.fits; within = omega (arith, m.within); entries = λ c l. entries c l (ℕ_discrete c k) }
     where
       count : ℕ
       count = samples ws s step
@@ -77,9 +59,6 @@ module _ (ws : List ℕ) (b s step : ℕ) (marked : List ℕ) (i : ℕ) (m : Mar
       entries c l (no d) =
           rw (some_later (taken ws b s step c) (i - 1) count (omega (arith, m.within)) (ne_eqb _ c (λ z. d (sym z ∙ there))), back)
           (get_or-set_other marked k c 1 0 d ∙ m.entries c l)
-
-pub marking_all : (ws : List ℕ) (b s step : ℕ) (marked : List ℕ) (i : ℕ) → Marking ws b s step marked i → i ≤ 0 → Marked ws b s step marked
-marking_all ws b s step marked i m z = let e : i ≡ 0 = omega arith in record { entries = rw e at m.entries }
 
 -- ---- counting
 count_same : (f g : ℕ → Bool) (n : ℕ) → ((k : ℕ) → k < n → f k ≡ g k) → count_below f n ≡ count_below g n

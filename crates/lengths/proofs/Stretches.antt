@@ -22,11 +22,6 @@ use Rattle.bounds.proofs.Workspace.{pattern_length}
 use Rattle.lengths.specs.Lengths.{longer, stretch, longest}
 
 -- ---- one word
-pub stretch_call : (b : Bool) (w after : ℕ) → b ≡ is_call w → b ≡ true → after + 1 ≡ longer (is_call w) after
-stretch_call b w after e h = let k : is_call w ≡ true = sym e ∙ h in rw k refl
-
-pub stretch_none : (b : Bool) (w after : ℕ) → b ≡ is_call w → b ≡ false → 0 ≡ longer (is_call w) after
-stretch_none b w after e h = let k : is_call w ≡ false = sym e ∙ h in rw k refl
 
 -- ---- all of them
 stretch_within : (ws : List ℕ) → stretch ws ≤ length ws
@@ -50,9 +45,6 @@ stretching_none words from to after h l z e = record { least = h; within = l; he
 module _ (words : List ℕ) (from i free most : ℕ) (x : Stretching words from i free most) where
   pub stretching_fits : length words ≤ 2048 → free < 4096
   stretching_fits h = omega (arith, x.here, stretch_within (drop i words), length-drop i words)
-
-  pub stretching_inside : from < i → i - 1 < length words
-  stretching_inside h = omega (arith, x.within)
 
   pub stretching_more : from < i → (free' most' : ℕ) → free' ≡ longer (is_call (get_or words (i - 1) 0)) free → most' ≡ max most free' → Stretching words from (i - 1) free' most'
   unfolding stretch longest
@@ -129,19 +121,6 @@ module _ (xs : List ℕ) (most from to : ℕ) (x : Longest xs most from to) wher
   pub longest_inside : to ≤ length xs
   longest_inside = omega (arith, x.last.within, x.inside)
 
-  pub longest_more : (r from' to' : ℕ) → r ≡ longest (drop from xs) → StretchBefore xs from from' to' → Longest xs r from' to'
-  longest_more r from' to' e b =
-      record {
-        end = from;
-        inside = omega (arith, x.last.ordered, x.last.within, x.inside);
-        here = e;
-        edge = λ l h f. x.last.edge h f;
-        last = b;
-      }
-
-  pub longest_less : 0 < to → (from' to' : ℕ) → StretchBefore xs from from' to' → to' < to
-  longest_less z from' to' r = omega (arith, r.within, x.last.some z)
-
   pub longest_all : to ≤ 0 → most ≡ longest xs
   longest_all z = let e : to ≡ 0 = omega arith in longest_here ∙ rw e refl
 
@@ -163,14 +142,8 @@ module _ (j : Job) (ws : List ℕ) (space : Space j ws) where
     pub part_here : most ≡ longest (drop to (take (j.n - 0) (drop 0 ws)))
     part_here = rw front (longest_here (state j ws).pattern most from to x)
 
-    pub part_more : (r from' to' : ℕ) → r ≡ longest (drop from (take (j.n - 0) (drop 0 ws))) → StretchBefore (state j ws).pattern from from' to' → Longest (state j ws).pattern r from' to'
-    part_more r from' to' e b = longest_more (state j ws).pattern most from to x r from' to' (rw front at e) b
-
     pub part_ordered : from ≤ to
     part_ordered = x.last.ordered
-
-    pub part_within : from ≤ j.n
-    part_within = omega (arith, x.last.ordered, longest_inside (state j ws).pattern most from to x, pattern_length j ws space)
 
   pub part_none : (end from to : ℕ) → end ≡ j.n → StretchBefore (state j ws).pattern end from to → Longest (state j ws).pattern 0 from to
   part_none end from to e r = longest_none (state j ws).pattern end from to (e ∙ sym (pattern_length j ws space)) r

@@ -10,17 +10,12 @@ ghost use Rattle.lengths.specs.Lengths.{Marked, marks, different, worthwhile, sh
 use bounds::{Job, View};
 use tile::PatternAt;
 
-// Marks the places of every step-th window of s words, of 64 at the most, from the last to the first.
-fn mark_windows(words: &[u32], b: u32, s: usize, step: usize, marked: &mut [u32; 1024])
-    requires { (1 ≤ step) × (1 ≤ s) × (s ≤ length words.now) × (length words.now ≤ 2048) × (marked.old ≡ replicate 1024 0) }
-    ensures { Marked words.now b s step marked.new }
-{
-    let count = ((words.len() - s) / step).min(63) + 1;
-    for i in (0..count).rev() {
-        let at = i * step;
-        let h = window::hash_of(b, &words[at..at + s]);
-        marked[index::place_of(h)] = 1;
-    }
+// The windows of a pattern: its words, and the multiplier of the windows' hashes.
+#[derive(Clone, Copy)]
+struct Windows<'a> {
+    words: &'a [u32],
+    multiplier: u32,
+    ghost short: { length words.now ≤ 2048 },
 }
 
 // How many are marked.
@@ -30,82 +25,97 @@ fn count_marked(marked: &[u32; 1024]) -> usize
     marked.iter().filter(|w| **w != 0).count()
 }
 
-// How many different places 64 windows of s words have, taken at equal distances, or as many as there are; 0 where no window fits.
-fn differing(words: &[u32], b: u32, s: usize) -> usize
-    requires { (1 ≤ s) × (length words.now ≤ 2048) }
-    ensures { result ≡ different words.now b s }
-{
-    if words.len() < s {
-        return 0;
-    }
-    let mut marked = [0u32; 1024];
-    let step = ((words.len() - s) / 64).max(1);
-    mark_windows(words, b, s, step, &mut marked);
-    count_marked(&marked)
-}
-
-// Whether a pass at s words, before the one at the minimum, pays: s is at most 8, and 52 of 64 windows so long differ.
-fn pays(words: &[u32], b: u32, s: usize) -> bool
-    requires { (1 ≤ s) × (length words.now ≤ 2048) }
-    ensures { result ≡ worthwhile words.now b s }
-{
-    if 8 < s {
-        return false;
-    }
-    52 <= differing(words, b, s)
-}
-
-// The first of s, twice and four times that at which a pass pays; 0 where there is none.
-fn short_length(words: &[u32], b: u32, s: usize) -> usize
-    requires { (length words.now ≤ 2048) × (1 ≤ s) × (s ≤ 4096) }
-    ensures { result ≡ short_length words.now b s 3 }
-{
-    let mut length = s;
-    for _ in 0..3usize {
-        if pays(words, b, length) {
-            return length;
+impl<'a> Windows<'a> {
+    // Marks the places of every step-th window of s words, of 64 at the most, from the last to the first.
+    fn mark(&self, s: usize, step: usize, marked: &mut [u32; 1024])
+        requires { (1 ≤ step) × (1 ≤ s) × (s ≤ length self.now.words.now) × (marked.old ≡ replicate 1024 0) }
+        ensures { Marked self.now.words.now self.now.multiplier s step marked.new }
+    {
+        let count = ((self.words.len() - s) / step).min(63) + 1;
+        for i in (0..count).rev() {
+            let at = i * step;
+            let h = window::hash_of(self.multiplier, &self.words[at..at + s]);
+            marked[index::place_of(h)] = 1;
         }
-        length *= 2;
     }
-    0
-}
 
-// A length whose windows differ, from s on: s, or twice, or four times that, as long as more of them differ than did before. Where
-// no more of them do it is s: longer windows are alike as well. Where more do each time, but never enough, it is 2 s.
-fn climb(words: &[u32], b: u32, s: usize, few: usize) -> usize
-    requires { (length words.now ≤ 2048) × (1 ≤ s) × (s ≤ 2048) }
-    ensures { result ≡ climbed words.now b s s few 3 }
-{
-    let mut length = s;
-    let mut before = few;
-    for _ in 0..3usize {
-        let now = differing(words, b, length);
-        if 44 <= now {
-            return length;
+    // How many different places 64 windows of s words have, taken at equal distances, or as many as there are; 0 where no window fits.
+    fn differing(&self, s: usize) -> usize
+        requires { 1 ≤ s }
+        ensures { result ≡ different self.now.words.now self.now.multiplier s }
+    {
+        if self.words.len() < s {
+            return 0;
         }
-        if now <= before {
-            return s;
-        }
-        before = now;
-        length *= 2;
+        let mut marked = [0u32; 1024];
+        let step = ((self.words.len() - s) / 64).max(1);
+        self.mark(s, step, &mut marked);
+        count_marked(&marked)
     }
-    s.max((length / 4).min(2048))
-}
 
-// A length to begin with where windows of the minimum length are too much alike: a few words more, if that is enough; else the
-// minimum for a short pattern, and for a longer one a length from the one given on, but from 20 to 64.
-fn longer_length(words: &[u32], b: u32, minimum: usize, given: usize, few: usize) -> usize
-    requires { (length words.now ≤ 2048) × (1 ≤ minimum) × (minimum ≤ 2048) }
-    ensures { result ≡ longer_length words.now b minimum given few }
-{
-    let short = short_length(words, b, 2 * minimum);
-    if 0 < short {
-        return short;
+    // Whether a pass at s words, before the one at the minimum, pays: s is at most 8, and 52 of 64 windows so long differ.
+    fn pays(&self, s: usize) -> bool
+        requires { 1 ≤ s }
+        ensures { result ≡ worthwhile self.now.words.now self.now.multiplier s }
+    {
+        if 8 < s {
+            return false;
+        }
+        52 <= self.differing(s)
     }
-    if words.len() <= 256 {
-        return minimum;
+
+    // The first of s, twice and four times that at which a pass pays; 0 where there is none.
+    fn short_length(&self, s: usize) -> usize
+        requires { (1 ≤ s) × (s ≤ 4096) }
+        ensures { result ≡ short_length self.now.words.now self.now.multiplier s 3 }
+    {
+        let mut length = s;
+        for _ in 0..3usize {
+            if self.pays(length) {
+                return length;
+            }
+            length *= 2;
+        }
+        0
     }
-    climb(words, b, minimum.max(given.clamp(20, 64)), few)
+
+    // A length whose windows differ, from s on: s, or twice, or four times that, as long as more of them differ than did before. Where
+    // no more of them do it is s: longer windows are alike as well. Where more do each time, but never enough, it is 2 s.
+    fn climb(&self, s: usize, few: usize) -> usize
+        requires { (1 ≤ s) × (s ≤ 2048) }
+        ensures { result ≡ climbed self.now.words.now self.now.multiplier s s few 3 }
+    {
+        let mut length = s;
+        let mut before = few;
+        for _ in 0..3usize {
+            let now = self.differing(length);
+            if 44 <= now {
+                return length;
+            }
+            if now <= before {
+                return s;
+            }
+            before = now;
+            length *= 2;
+        }
+        s.max((length / 4).min(2048))
+    }
+
+    // A length to begin with where windows of the minimum length are too much alike: a few words more, if that is enough; else the
+    // minimum for a short pattern, and for a longer one a length from the one given on, but from 20 to 64.
+    fn longer_length(&self, minimum: usize, given: usize, few: usize) -> usize
+        requires { (1 ≤ minimum) × (minimum ≤ 2048) }
+        ensures { result ≡ longer_length self.now.words.now self.now.multiplier minimum given few }
+    {
+        let short = self.short_length(2 * minimum);
+        if 0 < short {
+            return short;
+        }
+        if self.words.len() <= 256 {
+            return minimum;
+        }
+        self.climb(minimum.max(given.clamp(20, 64)), few)
+    }
 }
 
 // Whether one pass, at the minimum, is made without a look at the windows: the pattern is short, or the multiplier even. Then
@@ -137,12 +147,15 @@ pub fn first_length(view: &View<'_>, multiplier: u32, given: usize) -> usize
     if at_once(n, minimum, multiplier) {
         return minimum;
     }
-    let pattern = &view.words[0..n];
-    let few = differing(pattern, multiplier, minimum);
+    let windows = Windows {
+        words: &view.words[0..n],
+        multiplier,
+    };
+    let few = windows.differing(minimum);
     if enough_of(n) <= few {
         return minimum;
     }
-    longer_length(pattern, multiplier, minimum, given, few)
+    windows.longer_length(minimum, given, few)
 }
 
 // One more than the stretch after a call, and 0 where the word is no call.

@@ -10,12 +10,13 @@ ghost use Rattle.sweep.specs.Progress.{Fits, RowBound, NextRows, FilledFrom, Fil
 ghost use Rattle.levels.specs.Kept.{Kept, Enough};
 ghost use Rattle.bounds.specs.declared.Job.{Job};
 
-use bounds::{Job, View};
+use bounds::{Job, LevelRows, View};
 use chain::Stretch;
 use sweep::{Found, Round, Totals};
 use tile::{PatternAt, TextAt};
 
-// How an engine searches rows.
+// How an engine searches rows. What `Serves` and `Fills` say is of the engine and of a workspace that is written between, like the blocks
+// that cover its bounds, the tile buffer and the totals: no value can hold these as they are lent, so each function asks it and says it.
 pub trait Engine {
     // What its tables hold of a workspace, whose rows it then can search.
     ghost Serves: { Self → Job → List ℕ → Type 0 };
@@ -156,10 +157,22 @@ fn sweep_rows<E: Engine>(
 {
     let level = round.level;
     let mut sum = round.totals;
-    let mut p = View { job, words: ws }.next_row(blocks, level, PatternAt(0));
+    let view = View { job, words: ws };
+    let mut p = LevelRows {
+        view,
+        blocks,
+        level,
+    }
+    .next_row(PatternAt(0));
     while p.0 < job.n && !sweep::at_goal(sum) {
         sum = step(engine, ws, job, blocks, p, tiles, sum);
-        p = View { job, words: ws }.later_row(blocks, level, p);
+        let view = View { job, words: ws };
+        p = LevelRows {
+            view,
+            blocks,
+            level,
+        }
+        .later_row(p);
     }
     sum
 }
@@ -178,11 +191,11 @@ pub fn lay_levels<E: Engine>(
 {
     let least = engine.least_run(job);
     let mut sum = totals;
-    let mut level = bounds::top(blocks, job);
+    let mut level = View { job, words: ws }.top(blocks);
     while least <= level && !sweep::at_goal(sum) {
         let round = Round { level, totals: sum };
         sum = sweep_rows(engine, ws, job, blocks, tiles, round);
-        level = (level - 1).min(bounds::top(blocks, job));
+        level = (level - 1).min(View { job, words: ws }.top(blocks));
     }
     sum
 }

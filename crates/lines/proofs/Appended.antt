@@ -8,11 +8,6 @@ use lib.ListN.{length, take, drop, length-append, take-append-drop}
 use lib.Seq.{take_at, drop_at, drop-drop, length-take-le}
 use Rattle.lines.specs.Appended.{Appended}
 
--- A text copied to the part of a buffer that is as long.
-pub appended : (at n : ℕ) (b part text : List ℕ) → at + length text ≤ length b → n ≡ length text → part ≡ text → Appended (length text) text at b (at + length text) (take at b ++ (part ++ drop n (drop at b)))
-appended at n b part text fits k e =
-    record { within = omega arith; few = omega arith; next = refl; held = rw (e, k) refl }
-
 -- Nothing appended.
 pub nothing : (at : ℕ) (b : List ℕ) → at ≤ length b → Appended 0 [] at b at b
 nothing at b h = record { within = h; few = omega arith; next = omega arith; held = sym (take-append-drop at b) }

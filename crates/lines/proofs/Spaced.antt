@@ -6,7 +6,7 @@ use native.Mathlib.Numerals.{add-one}
 use mathlib.Core.Path.{◌≡◌, refl, ◌∙◌}
 use mathlib.Core.List.{List, [], ◌∷◌, ◌++◌, append_assoc, append-nil}
 use lib.ListN.{length, take, get_or}
-use lib.Seq.{take-suc, take_all}
+use lib.Seq.{take-suc}
 use Rattle.lines.specs.Text.{ascii, decimal, spaced}
 use Rattle.lines.specs.Appended.{Appended}
 use Rattle.lines.proofs.Appended.{both, nothing}
@@ -46,8 +46,3 @@ spaced_more numbers b₀ b b' at end end' i r h a k =
       same = k ∙ r.same;
       next = omega (arith, a.next, a.few, r.next);
     }
-
-pub spaced_all : (numbers b₀ b : List ℕ) (at end i : ℕ) → Spaced numbers at b₀ end b i → length numbers ≤ i → Appended (11 * length numbers) (spaced numbers) at b₀ end b
-spaced_all numbers b₀ b at end i r h =
-    let e : i ≡ length numbers = omega (arith, r.within) in
-    rw (e, take_all (length numbers) numbers (omega arith)) at r.held

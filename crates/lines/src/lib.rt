@@ -1,5 +1,6 @@
 // Lines of text. Each function writes into a lent buffer of bytes from a position on and answers the position after what it
-// wrote.
+// wrote. (`write!` of the library promises its bytes only where it succeeds, and not that it does, and a struct of buffer and position
+// would have to say in each contract that it still holds the same `&mut`. A text is bytes: as a `&str` it would ask more of a caller.)
 #![tactic(auto)]
 
 ghost use Rattle.std.specs.Prelude.{◌≡◌, [], ◌∷◌, ◌+◌, ◌*◌, ◌≤◌, length};

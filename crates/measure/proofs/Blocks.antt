@@ -3,26 +3,16 @@
 -- Assumes nothing.
 use Prim.Native.Nat.{ℕ, ◌+◌, ◌-◌, ◌%◌, ◌≤◌, ◌<◌}
 use native.Mathlib.Omega.{arith}
-use mathlib.Core.Path.{◌≡◌, refl, sym, ◌∙◌}
+use mathlib.Core.Path.{◌≡◌, sym, ◌∙◌}
 use mathlib.Core.Bool.{Bool, true, false}
-use mathlib.Core.List.{List}
 use borrow.Author.Tests.{leb-true, leb-false}
 use lib.Dec.{leb}
-use lib.ListN.{length, take, drop, length-drop}
 use Rattle.measure.specs.Block.{block, whole_blocks}
-use Rattle.buffer.proofs.Buffer.{tail_is}
 
 -- ---- block after block: n tests hold, in whole blocks
 pub record Blocks (l n : ℕ) : Type 0 where
   pub whole : n % block ≡ 0
   pub held : n ≤ l
-
-pub blocks_none : (l : ℕ) → Blocks l 0
-blocks_none l = record { whole = refl; held = omega arith }
-
--- What is left of a list has room for a block.
-pub block_room : (xs : List ℕ) (n : ℕ) → block ≤ length xs - n → block ≤ length (take (length xs - n) (drop n xs))
-block_room xs n h = rw (tail_is n xs) (omega (arith, length-drop n xs))
 
 -- Whether the next block holds: the count is n, and that of what follows.
 module _ (l n after : ℕ) (b : Blocks l n) (e : l ≡ n + after) (r : Bool) (k : r ≡ leb block after) where

@@ -13,7 +13,7 @@ ghost use Rattle.measure.specs.Tested.{Tested};
 const BLOCK: usize = 8;
 
 // Whether the first words of two parts pass a test pair by pair, as many as a block has. Every pair is looked at, so that the compiler
-// can test several at once.
+// can test several at once. That the test may be asked of any pair is a clause of each function that takes it: a closure carries none.
 fn block_passes<F: Fn(u32, u32) -> bool + Copy>(words: &[u32], others: &[u32], passes: F) -> bool
     requires room { (block ≤ length words.now) × (block ≤ length others.now) }
     requires callable { F.IsAlwaysCallable passes }

@@ -11,7 +11,7 @@ use lib.ListN.{length, get_or, take, drop, set}
 use borrow.Author.Tests.{eq-eqb, le-ltb, eqb-true, ltb-false, not-false}
 use Rattle.refusal.proofs.Causes.{clear}
 use Rattle.buffer.specs.Buffer.{onto}
-use Rattle.buffer.proofs.Buffer.{Copied, copied_none, copied_more, copied_all}
+use Rattle.buffer.proofs.Buffer.{Copied, copied_more, copied_all}
 use Rattle.record.specs.Format.{header, id_of, trailer}
 use Rattle.record.specs.Reading.{head, count, sequence}
 use Rattle.record.proofs.Format.{header_parts}
@@ -52,9 +52,6 @@ module _ (first second b₀ : List ℕ) (even : length first ≡ length second) 
         held = m.held;
         same = m.same;
       }
-
-  pub merging_none : length first ≤ length b₀ → Merging first second b₀ b₀ 0
-  merging_none h = merging b₀ 0 (copied_none (merged first second) b₀ (omega (arith, long)))
 
 pub merging_more : (first second b₀ b : List ℕ) (i w : ℕ) → Merging first second b₀ b i → i < length first → w ≡ merged_word (get_or first i 0) (get_or second i 0) → Merging first second b₀ (set b i w) (i + 1)
 merging_more first second b₀ b i w m h e =

@@ -4,8 +4,8 @@
 use Prim.Native.Nat.{ℕ, ◌≤◌, ◌<◌, min, max}
 use native.Mathlib.Decide.{dec_lt}
 use native.Mathlib.Omega.{arith}
-use mathlib.Core.Path.{◌≡◌, refl, ◌∙◌}
-use mathlib.Core.Bool.{Bool, true, false}
+use mathlib.Core.Path.{◌≡◌, ◌∙◌}
+use mathlib.Core.Bool.{false}
 use mathlib.Core.List.{List}
 use lib.ListN.{length, drop}
 use Rattle.tiling.specs.Tiling.{best}
@@ -15,30 +15,14 @@ use Rattle.sweep.specs.Goal.{at_goal}
 use Rattle.sweep.specs.Progress.{Fits, Onward, Finished}
 use Rattle.sweep.specs.declared.Totals.{Totals}
 use Rattle.bounds.proofs.Workspace.{pattern_length}
-use Rattle.sweep.proofs.Turn.{at_goal_no, onward_none, onward_more, unmoved_fits, unmoved_finished}
-use Rattle.index.specs.Built.{Built}
-use Rattle.index.specs.Indexed.{Filtered}
+use Rattle.sweep.proofs.Turn.{onward_more}
 use Rattle.index.specs.declared.pass.Pass.{Pass}
-use Rattle.rows.specs.Serving.{Serving}
 use Rattle.lengths.specs.Lengths.{first_length, left, part_of}
 use Rattle.lengths.proofs.Choice.{Between, first_between, left_more, left_all, Next, next_between}
 use Rattle.lengths.proofs.Stretches.{run_longest}
 use Rattle.passes.specs.Passing.{AtLength}
 
 -- ---- one pass
-module _ (x : Pass) (heads filter ws ws₁ b : List ℕ) (k : Totals) (built : Built x ws ws₁ heads filter) where
-  pub built_fits : Fits x.job ws b k → Fits x.job ws₁ b k
-  built_fits fits = unmoved_fits x.job ws ws₁ b k built.same built.space fits
-
-  pub built_serves : (y : Pass) → y ≡ x → Serving y heads x.job ws₁
-  built_serves y e = rw e (record { job = refl; indexed = built.indexed })
-
-  pub built_fills : (y : Pass) → y ≡ x → Filtered y ws₁ filter
-  built_fills y e = rw e built.filtered
-
-  pub built_over : (ws₂ b' : List ℕ) (k' : Totals) → Finished x.job x.s ws₁ b k ws₂ b' k' → Finished x.job x.s ws b k ws₂ b' k'
-  built_over = unmoved_finished x.job ws ws₁ b k built.same x.s
-
 -- ---- the later passes
 pub record Resting (x : Pass) (ws₀ b₀ : List ℕ) (k₀ : Totals) (ws b : List ℕ) (k : Totals) (y : Pass) (stretch : ℕ) : Type 0 where
   pub job : y.job ≡ x.job
@@ -49,25 +33,7 @@ pub record Resting (x : Pass) (ws₀ b₀ : List ℕ) (k₀ : Totals) (ws b : Li
   pub same_room : length ws ≡ length ws₀
   pub same_tiles : length b ≡ length b₀
 
-pub resting_none : (x : Pass) (ws b : List ℕ) (k : Totals) (r : ℕ) → Fits x.job ws b k → (at_goal k ≡ false → (best (state x.job ws)).len < x.s) → r ≡ left (state x.job ws).pattern x.job.minimum x.s → Resting x ws b k ws b k x r
-resting_none x ws b k r f h t =
-    record {
-      job = refl;
-      fits = f;
-      onward = onward_none x.job ws b k;
-      short = h;
-      stretched = t;
-      same_room = refl;
-      same_tiles = refl;
-    }
-
 module _ (x : Pass) (ws₀ b₀ : List ℕ) (k₀ : Totals) (ws b : List ℕ) (k : Totals) (y : Pass) (r : ℕ) (i : Resting x ws₀ b₀ k₀ ws b k y r) where
-  pub resting_covered : k.covered ≤ 2048
-  resting_covered = omega (arith, i.fits.free, i.fits.space.short_pattern)
-
-  pub resting_short : y.job.n ≤ 2048
-  resting_short = i.fits.space.short_pattern
-
   module _ (more : y.job.minimum ≤ r) (s : ℕ) (e : s ≡ max y.job.minimum (min (part_of y.s k.covered y.job.n) r)) where
     -- The search length falls.
     next : Next y.job.minimum y.s s
@@ -87,9 +53,6 @@ module _ (x : Pass) (ws₀ b₀ : List ℕ) (k₀ : Totals) (ws b : List ℕ) (k
     module _ (z : Pass) (a : AtLength y s z) where
       pub resting_less : z.s < y.s
       resting_less = omega (arith, next.less, a.length)
-
-      pub resting_fits : Fits z.job ws b k
-      resting_fits = rw a.job i.fits
 
       pub resting_more : (ws' b' : List ℕ) (k' : Totals) → Finished z.job z.s ws b k ws' b' k' → length ws' ≡ length ws → length b' ≡ length b → (r' : ℕ) → r' ≡ left (state z.job ws').pattern z.job.minimum z.s → Resting x ws₀ b₀ k₀ ws' b' k' z r'
       resting_more ws' b' k' f v w r' t =
@@ -113,14 +76,7 @@ module _ (x : Pass) (ws₀ b₀ : List ℕ) (k₀ : Totals) (ws b : List ℕ) (k
           omega (arith, (best_is u).long, run_longest u.pattern (best u).p (drop (best u).t u.text), left_all u.pattern y.job.minimum y.s r i.stretched l)
       go g (no l) = omega (arith, i.short g, l)
 
-  -- Or the goal is reached.
-  pub resting_goal : (t : Bool) → t ≡ at_goal k → t ≡ true → Finished x.job x.job.minimum ws₀ b₀ k₀ ws b k
-  resting_goal t e is = rw (← i.job) (record { fits = i.fits; onward = i.onward; short = λ g. absurd (at_goal_no t (at_goal k) e is g) })
-
 -- ---- the first pass and the later ones
--- Where the goal is reached at once, nothing is to be done.
-pub goal_at_once : (x : Pass) (ws b : List ℕ) (k : Totals) → Fits x.job ws b k → (t : Bool) → t ≡ at_goal k → t ≡ true → Finished x.job x.job.minimum ws b k ws b k
-goal_at_once x ws b k f t e is = record { fits = f; onward = onward_none x.job ws b k; short = λ g. absurd (at_goal_no t (at_goal k) e is g) }
 
 module _ (x : Pass) (ws b : List ℕ) (k : Totals) (s : ℕ) (f : Fits x.job ws b k) (e : s ≡ first_length (state x.job ws).pattern x.multiplier x.job.minimum x.s) where
   between : Between x.job.minimum s
@@ -136,11 +92,3 @@ module _ (x : Pass) (ws b : List ℕ) (k : Totals) (s : ℕ) (f : Fits x.job ws 
 
   pub first_enough : x.job.minimum ≤ s
   first_enough = between.least
-
-module _ (x : Pass) (ws b : List ℕ) (k : Totals) (s : ℕ) (y : Pass) (at : AtLength x s y) where
-  pub first_fits : Fits x.job ws b k → Fits y.job ws b k
-  first_fits f = rw at.job f
-
-  pub all_passes : (ws₁ b₁ : List ℕ) (k₁ : Totals) → Finished y.job y.s ws b k ws₁ b₁ k₁ → (ws₂ b₂ : List ℕ) (k₂ : Totals) → Finished y.job y.job.minimum ws₁ b₁ k₁ ws₂ b₂ k₂ → Finished x.job x.job.minimum ws b k ws₂ b₂ k₂
-  all_passes ws₁ b₁ k₁ f ws₂ b₂ k₂ g =
-      rw (← at.job) (record { fits = g.fits; onward = onward_more y.job ws b ws₁ b₁ ws₂ b₂ k k₁ k₂ f.onward g.onward; short = g.short })

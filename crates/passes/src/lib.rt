@@ -19,17 +19,12 @@ fn at_length(pass: Pass, s: usize) -> Pass
     requires { (1 ≤ s) × (s ≤ 2048) × (pass.job.minimum ≤ s) }
     ensures { AtLength pass s result }
 {
-    let job = pass.job;
-    Pass {
-        job,
-        s,
-        multiplier: pass.multiplier,
-        buckets: pass.buckets,
-    }
+    Pass::new(pass.job, s, pass.multiplier, pass.buckets)
 }
 
 // A pass: every tile of at least s words is laid, until the goal. At first every head is past the text, nothing has an entry, and no row is
-// remembered. The tables are filled where they stand, since a value made elsewhere would be copied.
+// remembered. The tables are filled where they stand, since a value made elsewhere would be copied. `Fits` is asked by each function here,
+// since it is of what is lent to be written.
 fn one_pass(ws: &mut [u32], pass: Pass, tiles: &mut [u32], totals: Totals) -> Totals
     requires { Fits pass.job ws.old tiles.old totals }
     ensures { Finished pass.job pass.s ws.old tiles.old totals ws.new tiles.new result }

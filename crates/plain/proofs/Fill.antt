@@ -39,9 +39,6 @@ goes_back j ws p t b e z = before_some t j.m (ltb-true (before t j.m) j.m (and_l
 
 -- ---- one row
 module _ (j : Job) (ws : List ℕ) (p cap : ℕ) (space : Space j ws) where
-  pub bound_caps : RowBound j (state j ws) p cap → Capped (state j ws) p cap
-  bound_caps c = c.most
-
   pub bound_known : (q r : ℕ) → RowBound j (state j ws) p cap → UpperFrom j ws (p + 1) → r ≡ bound_by j ws p q (p + 1) cap → RowBound j (state j ws) p r
   bound_known q r c upper e = bound_told j ws p cap r c (bound_tells j ws p q cap space (p + 1) r upper e)
 
@@ -51,9 +48,6 @@ module _ (j : Job) (ws : List ℕ) (p cap : ℕ) (space : Space j ws) where
       within : Dec ((j.minimum - 1) / 2 < f.len) → p + f.len ≤ j.n
       within (yes l) = omega (arith, r.long l, c.most f.t.0, c.within)
       within (no l) = omega (arith, r.least, c.within, l)
-
-pub half_low : (minimum : ℕ) → minimum ≤ 256 → (minimum - 1) / 2 ≤ 2048
-half_low minimum h = omega arith
 
 -- ---- a row of the level
 module _ (j : Job) (ws : List ℕ) (p cap : ℕ) (space : Space j ws) (inside : p < j.n) (full : cap ≡ bound j ws p) (upper : UpperFrom j ws 0) where

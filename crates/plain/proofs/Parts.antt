@@ -1,17 +1,14 @@
 -- The parts of the workspace that a search reads. The pattern's part is cut after cap words: where no run exceeds cap, that changes none.
 -- Assumes nothing.
-use Prim.Native.Nat.{ℕ, ◌+◌, ◌-◌, ◌*◌, ◌≤◌, ◌<◌, min}
+use Prim.Native.Nat.{ℕ, ◌+◌, ◌-◌, ◌≤◌, ◌<◌, min}
 use native.Mathlib.Omega.{arith}
 use mathlib.Core.Path.{◌≡◌, sym}
 use mathlib.Core.List.{List}
-use lib.ListN.{length, take, drop, length-take, length-drop}
+use lib.ListN.{take, drop, length-take, length-drop}
 use lib.Seq.{take-take, get_or-take}
-use Rattle.symbol.specs.Sequence.{Current}
-use Rattle.symbol.proofs.Sequence.{current_take, current_drop}
 use Rattle.buffer.proofs.Buffer.{rest_of_front}
 use Rattle.tiling.specs.Run.{run}
 use Rattle.tiling.proofs.Run.{run_within, run_match, run_least}
-use Rattle.chain.specs.Chain.{Chained}
 use Rattle.bounds.specs.Workspace.{Space, state}
 use Rattle.sweep.specs.Row.{Row}
 use Rattle.bounds.specs.declared.Job.{Job}
@@ -39,12 +36,6 @@ module _ (j : Job) (ws : List ℕ) (p cap least : ℕ) (s : Space j ws) (inside 
       let k : p + least - p ≡ least = omega arith in
       rw (k, ← rest_of_front p j.n ws) (sym (take-take least (j.n - p) (drop p ws) (omega (arith, e))))
 
-  pub pattern_part : Current (take (p + least - p) (drop p ws))
-  pattern_part = rw part (current_take least row (current_drop p (state j ws).pattern s.current.of_pattern))
-
-  pub pattern_short : length (take (p + least - p) (drop p ws)) ≤ 2048
-  pattern_short = omega (arith, length-take (p + least - p) (drop p ws), s.short_pattern, e)
-
   pub row_of_parts : (floor : ℕ) (f : Found) → Capped (state j ws) p cap → Row (take (p + least - p) (drop p ws)) (take (j.n + j.m - j.n) (drop j.n ws)) floor f → Row row (state j ws).text floor f
   row_of_parts floor f c r =
       let a : j.n + j.m - j.n ≡ j.m = omega arith in
@@ -61,14 +52,3 @@ module _ (j : Job) (ws : List ℕ) (p cap least : ℕ) (s : Space j ws) (inside 
       same u =
           cut_same least row (drop u (state j ws).text)
           (omega (arith, c u, e, run_within row (drop u (state j ws).text), length-drop p (state j ws).pattern, pattern_length j ws s))
-
--- No word of the text is a retired call.
-pub text_part : (j : Job) (ws : List ℕ) → Space j ws → Current (take (j.n + j.m - j.n) (drop j.n ws))
-text_part j ws s = let e : j.n + j.m - j.n ≡ j.m = omega arith in rw e s.current.of_text
-
--- The chain of the text.
-pub chain_part : (j : Job) (ws : List ℕ) → Space j ws → Chained (take (j.n + j.m - j.n) (drop j.n ws)) (take (4 * (j.n + j.m) - (3 * (j.n + j.m) + j.n)) (drop (3 * (j.n + j.m) + j.n) ws))
-chain_part j ws s =
-    let e : j.n + j.m - j.n ≡ j.m = omega arith in
-    let d : 4 * (j.n + j.m) - (3 * (j.n + j.m) + j.n) ≡ j.m = omega arith in
-    rw (e, d) s.of_text

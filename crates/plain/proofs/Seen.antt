@@ -7,7 +7,7 @@ use native.Mathlib.Omega.{arith}
 use mathlib.Core.Path.{◌≡◌, refl, sym, ◌∙◌, subst}
 use mathlib.Core.Bool.{false}
 use mathlib.Core.List.{List}
-use lib.ListN.{length, take, drop, get_or, length-drop}
+use lib.ListN.{length, drop, get_or, length-drop}
 use lib.Seq.{get_or-drop}
 use Rattle.symbol.specs.Word.{equal_calls}
 use Rattle.symbol.specs.Sequence.{Current}
@@ -19,7 +19,6 @@ use Rattle.tiling.proofs.Leading.{leading_within, leading_most}
 use Rattle.tiling.proofs.Run.{run_within, run_match, run_most, zero_right}
 use Rattle.tiling.proofs.Replaced.{run_current}
 use Rattle.tile.specs.declared.TextAt.{TextAt}
-use Rattle.buffer.proofs.Buffer.{tail_is}
 use Rattle.measure.specs.Block.{counted}
 use Rattle.measure.proofs.Longer.{counted_longer, counted_most}
 use Rattle.sweep.specs.Row.{Row, better, passed_over}
@@ -55,22 +54,12 @@ run_marked ps ts best at e =
     let other : equal_calls (get_or ps 0 0) (get_or (drop at ts) 0 0) ≡ false = rw word (no_call_right (get_or ps 0 0) 0 (call_below 0 (omega arith))) in
     counted_zero best (equal_run ps (drop at ts)) (omega (arith, leading_most equal_calls ps (drop at ts) 0 other))
 
-pub run_measured : (ps ts : List ℕ) (best at r : ℕ) → r ≡ counted best (equal_run ps (take (length ts - at) (drop at ts))) → r ≡ counted best (equal_run ps (drop at ts))
-run_measured ps ts best at r e = rw (tail_is at ts) at e
-
 -- So many that they can be counted.
 pub counted_small : (ps xs : List ℕ) (best len : ℕ) → length ps ≤ 2048 → len ≡ counted best (equal_run ps xs) → len ≤ 2048
 counted_small ps xs best len h e = omega (arith, e, counted_most best (equal_run ps xs), leading_within equal_calls ps xs)
 
 pub passed_small : (c len skip : ℕ) → len ≤ 2048 → skip ≡ passed_over c len → skip ≤ 2048
 passed_small c len skip h k = omega (arith, passed_most c len skip k)
-
-pub start_from : (ts : List ℕ) (at c len skip from next : ℕ) → skip ≡ passed_over c len → from ≡ min (at + 1 + skip) (length ts) → First (Free ts) from (length ts) next → First (Free ts) (min (at + 1 + passed_over c len) (length ts)) (length ts) next
-start_from ts at c len skip from next e w f = rw (← e, ← w) f
-
--- The search goes on further to the right.
-pub start_less : (Q : ℕ → Type 0) (ts : List ℕ) (t far r c len next : ℕ) → t + far < length ts → Passing Q t (length ts - far) r → First (Free ts) (min (r + 1 + passed_over c len) (length ts)) (length ts) next → length ts - next < length ts - t
-start_less Q ts t far r c len next h f g = omega (arith, f.least, g.least)
 
 -- What is known of the two parts.
 pub record Parts (ps ts : List ℕ) : Type 0 where

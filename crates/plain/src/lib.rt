@@ -11,7 +11,7 @@ ghost use Rattle.measure.specs.Block.{counted};
 ghost use Rattle.bounds.specs.Workspace.{state};
 ghost use Rattle.sweep.specs.Row.{Row, passed_over};
 ghost use Rattle.chain.specs.First.{First, Passing};
-ghost use Rattle.chain.specs.Chain.{Free, Chained};
+ghost use Rattle.chain.specs.Chain.{Free};
 ghost use Rattle.sweep.specs.Progress.{UpperFrom, RowBound};
 ghost use Rattle.ends.specs.Result.{Room, Ran};
 ghost use Rattle.plain.specs.Promise.{Plain};
@@ -19,6 +19,7 @@ ghost use Rattle.plain.specs.Bounds.{Capped, goes_on};
 ghost use Rattle.plain.specs.Pair.{SideBySide};
 
 use bounds::{Job, View};
+use chain::FreeWords;
 use checks::Pair;
 use levels::Engine;
 use refusal::Refusal;
@@ -61,39 +62,40 @@ fn run_at(pattern: &[u32], text: &[u32], at: TextAt, best: usize) -> usize
 }
 
 // The next position of the chain after one with a run of len words, and after those that the run tells to have a shorter one.
-fn next_start(text: &[u32], chain: &[u32], at: TextAt, again: usize, len: usize) -> usize
-    requires { Chained text.now chain.now × (at.0 ≤ length text.now) × (len ≤ 2048) }
-    ensures { First (Free text.now) (min (at.0 + 1 + passed_over again len) (length text.now)) (length text.now) result }
+fn next_start(text: &FreeWords<'_>, at: TextAt, again: usize, len: usize) -> usize
+    requires { (at.0 ≤ length text.now.words.now) × (len ≤ 2048) }
+    ensures { First (Free text.now.words.now) (min (at.0 + 1 + passed_over again len) (length text.now.words.now)) (length text.now.words.now) result }
 {
     let from = at.0 + 1 + sweep::passed_over(again, len);
-    chain::free_from(text, chain, from.min(text.len()))
+    text.free_from(from.min(text.words.len()))
 }
 
 // The longest run of the row that pattern starts, where it is longer than floor, and the first position on the text that
 // has it. A run longer than what was found has the pattern's word at that offset, and the one where the last run that was measured
 // ended, so positions that lack either are passed over; and so are those within a run of one word again and again. The search ends
 // where too few words are left for a longer run.
-fn row_search(pattern: &[u32], text: &[u32], chain: &[u32], floor: usize) -> Found
-    requires { (floor ≤ 2048) × (length pattern.now ≤ 2048) × (length text.now ≤ 2048) × Current pattern.now × Current text.now × Chained text.now chain.now }
-    ensures { Row pattern.now text.now floor result }
+fn row_search(pattern: &[u32], text: &FreeWords<'_>, floor: usize) -> Found
+    requires { (floor ≤ 2048) × (length pattern.now ≤ 2048) × Current pattern.now × Current text.now.words.now }
+    ensures { Row pattern.now text.now.words.now floor result }
 {
+    let words = text.words;
     let mut found = Found {
         t: TextAt(0),
         len: floor,
     };
     let again = sweep::repeats(pattern);
     let mut ended = 0;
-    let mut t = chain::free_from(text, chain, 0);
-    while found.len < pattern.len() && t + found.len < text.len() {
+    let mut t = text.free_from(0);
+    while found.len < pattern.len() && t + found.len < words.len() {
         let far = found.len;
-        let at = next_pair(text, TextAt(t), ended, far, pattern[ended], pattern[far]);
-        if text.len() <= at.0 + far {
+        let at = next_pair(words, TextAt(t), ended, far, pattern[ended], pattern[far]);
+        if words.len() <= at.0 + far {
             return found;
         }
-        let len = run_at(pattern, text, at, far);
+        let len = run_at(pattern, words, at, far);
         ended = len.min(far);
         found = sweep::keep(found, at, len);
-        t = next_start(text, chain, at, again, len);
+        t = next_start(text, at, again, len);
     }
     found
 }
@@ -109,12 +111,11 @@ fn search_row(view: &View<'_>, p: PatternAt, floor: usize, cap: usize) -> Found
     let end = n + view.job.m;
     let links = 3 * (n + view.job.m) + n;
     let all = 4 * (n + view.job.m);
-    row_search(
-        &view.words[from..to],
-        &view.words[n..end],
-        &view.words[links..all],
-        floor,
-    )
+    let text = FreeWords {
+        words: &view.words[n..end],
+        chain: &view.words[links..all],
+    };
+    row_search(&view.words[from..to], &text, floor)
 }
 
 // Whether the run at t of the row after p goes on with the words one position before it. The fast engine's asks a hash first, so they are two.

@@ -1,13 +1,13 @@
 -- A chain of refusals link by link: a cause that holds gives its number, one that does not leaves it to the later causes. And what an
 -- entry point gives that has branched on the number.
 -- Assumes nothing.
-use Prim.Native.Nat.{ℕ, zero, suc, ◌+◌, ◌≤◌, ◌<◌}
+use Prim.Native.Nat.{ℕ, zero, suc, ◌<◌}
 use native.Mathlib.Decide.{ℕ_discrete}
 use native.Mathlib.Omega.{arith}
-use mathlib.Core.Path.{◌≡◌, refl, sym, ◌∙◌, ap}
+use mathlib.Core.Path.{◌≡◌, refl, sym, ◌∙◌}
 use mathlib.Core.Bool.{Bool, true, false, not}
-use lib.Dec.{eqb, ltb}
-use borrow.Author.Tests.{lt-ltb, le-ltb, eq-eqb, ne_eqb}
+use lib.Dec.{eqb}
+use borrow.Author.Tests.{ne_eqb}
 use borrow.Author.Rules.{rules}
 use Rattle.refusal.specs.Number.{number}
 use Rattle.refusal.specs.declared.Refusal.{Refusal}
@@ -78,31 +78,9 @@ pub part_goes : (f : ℕ → ℕ) → Part f → (r q k : ℕ) → r ≡ f 0 →
 part_goes f p r q k e z s = s ∙ p.goes (sym e ∙ z) k
 
 -- ---- causes as the code tests them
--- The contrary of a test.
-pub cause_of : (r t b : Bool) → r ≡ t → not r ≡ b → not t ≡ b
-cause_of r t b e k = rw (← e) k
 
 pub differs : (a b : ℕ) → (a ≡ b → ⊥) → not (eqb a b) ≡ true
 differs a b d = rw (ne_eqb a b d) refl
-
-pub agrees : (a b : ℕ) → a ≡ b → not (eqb a b) ≡ false
-agrees a b e = rw (eq-eqb a b e) refl
-
--- A bound that was computed, or that adds to a number that was.
-pub short_of : (a r n : ℕ) → r ≡ n → a < r → ltb a n ≡ true
-short_of a r n e h = lt-ltb a n (rw e at h)
-
-pub enough_for : (a r n : ℕ) → r ≡ n → r ≤ a → ltb a n ≡ false
-enough_for a r n e h = le-ltb a n (rw e at h)
-
-pub short_by : (a r n k : ℕ) → r ≡ n → a < r + k → ltb a (n + k) ≡ true
-short_by a r n k e h = short_of a (r + k) (n + k) (ap (λ m. m + k) e) h
-
-pub enough_by : (a r n k : ℕ) → r ≡ n → r + k ≤ a → ltb a (n + k) ≡ false
-enough_by a r n k e h = enough_for a (r + k) (n + k) (ap (λ m. m + k) e) h
-
--- What the returns of a chain of tests want.
-pub ruleset causes = (refused, passed, cause_of, differs, agrees, short_of, enough_for, short_by, enough_by, lt-ltb, le-ltb, eq-eqb, ne_eqb)
 
 -- ---- an outcome
 pub outcome_refused : {A : Type 0} (r : ℕ) (new old : A) → (r ≡ 0 → ⊥) → outcome r new old ≡ old

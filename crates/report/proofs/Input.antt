@@ -2,18 +2,18 @@
 -- no word after its trailer, so what is cut off beyond that changes nothing.
 -- Assumes nothing.
 use Prim.Native.Nat.{ℕ, zero, suc, ◌+◌, ◌-◌, ◌≤◌, ◌<◌}
-use native.Mathlib.Nat.{not-suc-le-zero}
+use native.Mathlib.Nat.{not-suc-le-zero, le_of_suc-le-suc}
 use native.Mathlib.Decide.{dec_lt}
 use native.Mathlib.Omega.{arith}
 use mathlib.Core.Path.{◌≡◌, refl, sym, ◌∙◌, ap}
 use mathlib.Core.Bool.{Bool, true, false}
-use mathlib.Core.List.{List, [], ◌∷◌}
+use mathlib.Core.List.{List, [], ◌∷◌, ◌++◌, append_assoc}
 use lib.Dec.{eqb, ltb}
-use lib.ListN.{length, take, drop, length-take}
-use lib.Seq.{get_or-take, take-take, take_at, length-take-le}
+use lib.ListN.{length, take, drop, length-take, take-append-drop}
+use lib.Seq.{get_or-take, take-take, take_at}
 use borrow.Author.Tests.{ltb-false, lt-ltb, le-ltb, eq-eqb, ne_eqb}
 use Rattle.buffer.specs.Buffer.{onto}
-use Rattle.buffer.proofs.Buffer.{rest_of_front, length_onto}
+use Rattle.buffer.proofs.Buffer.{rest_of_front}
 use Rattle.record.specs.Format.{id_of}
 use Rattle.record.specs.Reading.{head, count, sequence, closes}
 use Rattle.record.proofs.Reading.{framed}
@@ -102,12 +102,6 @@ input_enough input k h =
 
 -- ---- what report writes: it stored the first words of the input
 module _ (input w w' : List ℕ) (n : ℕ) (counted : n ≡ length (take (length w) (words_of input))) (stored : w' ≡ onto (take (length w) (words_of input)) w) where
-  pub stored_fit : n ≤ length w'
-  stored_fit = omega (arith, counted, ap length stored, length_onto (take (length w) (words_of input)) w (omega (arith, length-take (length w) (words_of input))), length-take (length w) (words_of input))
-
-  pub stored_count : n ≡ length (take n w')
-  stored_count = sym (length-take-le n w' stored_fit)
-
   pub reported : length w ≡ input_words → (o : List ℕ) (r : ℕ) (o' : List ℕ) → Written (from_words (take n w')) o r o' → Written (pair_report input) o r o'
   unfolding pair_report
   reported room o r o' a =
@@ -120,14 +114,24 @@ module _ (input w w' : List ℕ) (n : ℕ) (counted : n ≡ length (take (length
 pub stream_reported : (stream b : List ℕ) (got : ℕ) (o : List ℕ) (r : ℕ) (o' : List ℕ) → input_bytes ≤ length b → Written (pair_report (take got b)) o r o' → ReadFrom stream got b → Written (pair_report stream) o r o'
 stream_reported stream b got o r o' room a read = rw (ap pair_report read ∙ input_enough stream (length b) room) at a
 
+-- ---- the page that the output begins with
+cut_rest : (k n : ℕ) (xs : List ℕ) → k ≤ n → drop k (take n xs) ++ drop n xs ≡ drop k xs
+cut_rest zero n xs h = take-append-drop n xs
+cut_rest (suc k) zero xs h = absurd (not-suc-le-zero h)
+cut_rest (suc k) (suc n) [] h = refl
+cut_rest (suc k) (suc n) (x ∷ xs) h = cut_rest k n xs (le_of_suc-le-suc h)
+
+-- A report at its start stands at the start of the output.
+pub on_page : (bytes o page : List ℕ) (r : ℕ) (page' : List ℕ) → page ≡ take report_bytes o → Written bytes page r page' → Written bytes o r (page' ++ drop report_bytes o)
+on_page bytes o page r page' e a =
+    record {
+      count = a.count;
+      few = a.few;
+      held = rw (a.held, e, append_assoc, cut_rest (length bytes) report_bytes o (omega (arith, a.few, a.count))) refl;
+    }
+
 -- ---- the report's bytes in the output
 module _ (bytes o : List ℕ) (r : ℕ) (o' : List ℕ) (a : Written bytes o r o') where
-  pub report_fits : report_bytes ≤ length o → r ≤ length o'
-  report_fits room = omega (arith, ap length a.held, length_onto bytes o (omega (arith, a.few, a.count)))
-
-  pub report_counts : report_bytes ≤ length o → r ≡ length (take r o')
-  report_counts room = sym (length-take-le r o' (report_fits room))
-
   -- What is handed to the write is the report.
   pub reported_bytes : take r o' ≡ bytes
   reported_bytes = rw a.held (take_at bytes (drop (length bytes) o) r (sym a.count))

@@ -69,9 +69,6 @@ module _ (tiles : List ℕ) (count at : ℕ) (b₀ : List ℕ) (end : ℕ) (b : 
         next = omega (arith, a.next, a.few, r.next);
       }
 
-  pub printed_all : count ≤ i → Appended (45 * count) (tile_lines (tiles_in count tiles)) at b₀ end b
-  printed_all h = let e : i ≡ count = omega (arith, r.within) in rw e at r.held
-
 -- ---- the same along the buffer's pieces of three words: what is left of the buffer is what stands behind the tiles that were taken, ys
 pub record Lining {A : Type 0} (tiles : List ℕ) (count at : ℕ) (b₀ : List ℕ) (end : ℕ) (b rest : List ℕ) (size : ℕ) (ys : List A) : Type 0 where
   pub printed : Printed tiles count at b₀ end b (length ys)
@@ -116,6 +113,3 @@ module _ {A : Type 0} (tiles : List ℕ) (count at : ℕ) (b₀ : List ℕ) (end
           left = rw (n, m, ← drop-drop 3 (3 * length ys) (take (3 * count) tiles), ← r.left, cut) (sym (drop_at tile rest' 3 (whole ∙ r.three)));
           three = s ∙ r.three;
         }
-
-  pub lining_all : length rest < size → Appended (45 * count) (tile_lines (tiles_in count tiles)) at b₀ end b
-  lining_all h = printed_all tiles count at b₀ end b (length ys) r.printed (omega (arith, remaining, r.three, r.printed.within))

@@ -63,9 +63,6 @@ pub record Stored (bytes w₀ w : List ℕ) (i : ℕ) : Type 0 where
   pub held : w ≡ onto (take i (words_of bytes)) w₀
   pub same : length w ≡ length w₀
 
-pub stored_none : (bytes w : List ℕ) → Stored bytes w w 0
-stored_none bytes w = record { fits = omega arith; whole = omega arith; span = omega arith; held = refl; same = refl }
-
 pub stored_more : (bytes w₀ w : List ℕ) (count i x : ℕ) → Stored bytes w₀ w i → count ≡ min (length w₀) (length bytes / 4) → i < count → x ≡ word_at bytes i → Stored bytes w₀ (set w i x) (i + 1)
 stored_more bytes w₀ w count i x r c more e =
     let ws = words_of bytes in

@@ -24,10 +24,13 @@ use tiling::Summary;
 const INPUT_WORDS: usize = 1 + 2 * 2050;
 
 // Lengths for report's two buffers that are enough for every input. Its contract asks for the same numbers, so that a wrong
-// one here is refused where the buffers are lent.
+// one here is refused, at the latest where the buffers are lent.
 pub const INPUT_BYTES: usize = 4 * INPUT_WORDS;
 
 pub const REPORT_BYTES: usize = 63 + 2048 * 45 + 61;
+
+// Where a report is written: it has room for every one.
+type Page = [u8; REPORT_BYTES];
 
 // The word of number i: four bytes, lowest first.
 fn word_at(bytes: &[u8], i: usize) -> u32
@@ -51,8 +54,7 @@ fn store_words(bytes: &[u8], words: &mut [u32]) -> usize
 }
 
 // Writes the line of a refusal.
-fn refused_line(out: &mut [u8], refusal: Refusal) -> usize
-    requires { report_bytes ≤ length out.old }
+fn refused_line(out: &mut Page, refusal: Refusal) -> usize
     ensures { Written (refused_line (number refusal)) out.old result out.new }
 {
     lines::line(out, 0, b"REFUSED", &[u32::from(refusal)])
@@ -96,7 +98,8 @@ fn tile_line(out: &mut [u8], at: usize, first: u32, second: u32, len: u32) -> us
     tile_shift(out, place, tile::shift(first, second))
 }
 
-// Writes the lines of the first count tiles of a tile buffer.
+// Writes the lines of the first count tiles of a tile buffer. The answer counts them: of a slice that ends with the last one each clause
+// would have to take a third of the length.
 fn tile_lines(out: &mut [u8], at: usize, tiles: &[u32], count: usize) -> usize
     requires { (at + 45 * count ≤ length out.old) × (3 * count ≤ length tiles.now) × Each Starts (tiles_in count tiles.now) }
     ensures { Appended (45 * count) (tile_lines (tiles_in count tiles.now)) at out.old result out.new }
@@ -118,25 +121,31 @@ fn closing_lines(out: &mut [u8], at: usize, sum: u32, n: u32, m: u32, points: u3
     lines::line(out, of, b"SCORE", &[points])
 }
 
-// What the report says of a pair besides the answer: the two fish, the minimum, and how many words each sequence has.
+// A fish: its id and the words of its sequence.
 #[derive(Clone, Copy)]
-struct Heading {
-    a: u32,
-    b: u32,
-    minimum: u32,
-    n: u32,
-    m: u32,
+struct Fish<'a> {
+    id: u32,
+    words: &'a [u32],
+    ghost few: { length words.now ≤ 2048 },
 }
 
 // Writes the report of an accepted comparison, whose tiles are in the tile buffer.
-fn pair_lines(out: &mut [u8], of: Heading, sum: Summary, tiles: &[u32]) -> usize
-    requires report_bytes_in_bounds { report_bytes ≤ length out.old }
-    requires laid { Laid of.n of.m (compared_as (Ok sum)) tiles.now }
-    ensures { Written (pair_lines of.a of.b of.minimum of.n of.m (tiles_in sum.tiles tiles.now)) out.old result out.new }
+fn pair_lines(
+    out: &mut Page,
+    first: Fish<'_>,
+    second: Fish<'_>,
+    minimum: u32,
+    sum: Summary,
+    tiles: &[u32],
+) -> usize
+    requires { Laid (length first.words.now) (length second.words.now) (compared_as (Ok sum)) tiles.now }
+    ensures { Written (pair_lines first.entry.id second.entry.id minimum (length first.entry.words.now) (length second.entry.words.now) (tiles_in sum.tiles tiles.now)) out.old result out.new }
 {
-    let opened = opening_lines(out, of.a, of.b, of.minimum, sum.tiles);
+    let opened = opening_lines(out, first.id, second.id, minimum, sum.tiles);
     let listed = tile_lines(out, opened, tiles, sum.tiles as usize);
-    closing_lines(out, listed, sum.covered, of.n, of.m, sum.score)
+    let n = first.words.len() as u32;
+    let m = second.words.len() as u32;
+    closing_lines(out, listed, sum.covered, n, m, sum.score)
 }
 
 // The first search length: 20, or the minimum if larger.
@@ -152,13 +161,12 @@ fn search_length(minimum: u32) -> u32
 // Compares two sequences by the search, with the program's settings: multiplier 257 and 256 buckets. The tiles go to the
 // start of the tile buffer. Workspace and tile buffer are as long as two sequences of 2,048 words can ask.
 fn search_pair(
-    first: &[u32],
-    second: &[u32],
+    first: Fish<'_>,
+    second: Fish<'_>,
     minimum: u32,
-    tiles: &mut [u32],
+    tiles: &mut [u32; 6144],
 ) -> Result<Summary, Refusal>
-    requires { (length first.now ≤ 2048) × (length second.now ≤ 2048) × (length tiles.old ≡ 6144) }
-    ensures { Searched first.now second.now minimum (compared_as result) tiles.new }
+    ensures { Searched first.entry.words.now second.entry.words.now minimum (compared_as result) tiles.new }
 {
     let mut workspace = [0u32; 16384];
     let settings = Settings {
@@ -166,74 +174,75 @@ fn search_pair(
         buckets: 256,
         start: search_length(minimum),
     };
-    search::compare(first, second, minimum, settings, &mut workspace, tiles)
+    search::compare(
+        first.words,
+        second.words,
+        minimum,
+        settings,
+        &mut workspace,
+        tiles,
+    )
 }
 
-// Compares two sequences and writes the report.
-fn compare(out: &mut [u8], a: u32, b: u32, minimum: u32, first: &[u32], second: &[u32]) -> usize
-    requires { (report_bytes ≤ length out.old) × (length first.now ≤ 2048) × (length second.now ≤ 2048) }
-    ensures { Written (from_pair a b minimum first.now second.now) out.old result out.new }
+// Compares two fish and writes the report.
+fn compare(out: &mut Page, first: Fish<'_>, second: Fish<'_>, minimum: u32) -> usize
+    ensures { Written (from_pair first.entry.id second.entry.id minimum first.entry.words.now second.entry.words.now) out.old result out.new }
 {
     let mut tiles = [0u32; 6144];
     match search_pair(first, second, minimum, &mut tiles) {
         Err(refusal) => refused_line(out, refusal),
-        Ok(sum) => {
-            let heading = Heading {
-                a,
-                b,
-                minimum,
-                n: first.len() as u32,
-                m: second.len() as u32,
-            };
-            pair_lines(out, heading, sum, &tiles)
-        }
+        Ok(sum) => pair_lines(out, first, second, minimum, sum, &tiles),
     }
 }
 
 // Reads a record into a buffer that has room for every sequence.
 #[tactic(auto, using(crate::proofs::Records::read_there))]
-fn read_record(src: &[u32], buffer: &mut [u32]) -> Result<Found, Refusal>
-    requires { length buffer.old ≡ 2048 }
+fn read_record(src: &[u32], buffer: &mut [u32; 2048]) -> Result<Found, Refusal>
     ensures { Read src.now result buffer.new }
 {
     record::read(src, buffer)
 }
 
 // Reads the second record and goes on to compare.
-fn from_second(out: &mut [u8], a: u32, minimum: u32, first: &[u32], src: &[u32]) -> usize
-    requires { (report_bytes ≤ length out.old) × (length first.now ≤ 2048) }
-    ensures { Written (from_second a minimum first.now src.now) out.old result out.new }
+fn from_second(out: &mut Page, first: Fish<'_>, minimum: u32, src: &[u32]) -> usize
+    ensures { Written (from_second first.entry.id minimum first.entry.words.now src.now) out.old result out.new }
 {
-    let mut second = [0u32; 2048];
-    match read_record(src, &mut second) {
+    let mut words = [0u32; 2048];
+    match read_record(src, &mut words) {
         Err(refusal) => refused_line(out, refusal),
         Ok(found) => {
             let count = found.count as usize;
-            compare(out, a, found.id, minimum, first, &second[..count])
+            let second = Fish {
+                id: found.id,
+                words: &words[..count],
+            };
+            compare(out, first, second, minimum)
         }
     }
 }
 
 // Reads the first record and goes on to the second.
-fn from_first(out: &mut [u8], minimum: u32, src: &[u32]) -> usize
-    requires { report_bytes ≤ length out.old }
+fn from_first(out: &mut Page, minimum: u32, src: &[u32]) -> usize
     ensures { Written (from_first minimum src.now) out.old result out.new }
 {
-    let mut first = [0u32; 2048];
-    match read_record(src, &mut first) {
+    let mut words = [0u32; 2048];
+    match read_record(src, &mut words) {
         Err(refusal) => refused_line(out, refusal),
         Ok(found) => {
             let count = found.count as usize;
             let used = found.used as usize;
-            from_second(out, found.id, minimum, &first[..count], &src[used..])
+            let first = Fish {
+                id: found.id,
+                words: &words[..count],
+            };
+            from_second(out, first, minimum, &src[used..])
         }
     }
 }
 
 // Takes the minimum word and goes on to the records.
 #[tactic(auto, unfolding(crate::specs::Pair::from_words))]
-fn from_words(out: &mut [u8], words: &[u32]) -> usize
-    requires { report_bytes ≤ length out.old }
+fn from_words(out: &mut Page, words: &[u32]) -> usize
     ensures { Written (from_words words.now) out.old result out.new }
 {
     match words.split_first() {
@@ -244,7 +253,9 @@ fn from_words(out: &mut [u8], words: &[u32]) -> usize
 
 // Writes the report of the input that is in the first got bytes of its buffer to the start of the output, and answers how
 // many bytes it has. Where these bytes were read from a stream, it is also the report of the whole stream: the buffer is long
-// enough for all that can matter of one. The last clause is what taking the report out of the output asks.
+// enough for all that can matter of one. The buffer is lent whole, and not just these bytes, since `whole_stream` speaks of
+// its length too: a stream has ended where less was read than the buffer holds. The last clause is what taking the report out
+// of the output asks.
 pub fn report(input: &[u8], got: usize, output: &mut [u8]) -> usize
     requires input_bytes_in_bounds { input_bytes ≤ length input.now }
     requires prefix_len { IsPrefixLen got input.now }
@@ -255,5 +266,8 @@ pub fn report(input: &[u8], got: usize, output: &mut [u8]) -> usize
 {
     let mut words = [0u32; INPUT_WORDS];
     let count = store_words(&input[..got], &mut words);
-    from_words(output, &words[..count])
+    let Some(page) = output.first_chunk_mut::<REPORT_BYTES>() else {
+        unreachable!()
+    };
+    from_words(page, &words[..count])
 }

@@ -2,14 +2,14 @@
 -- finds is a bound.
 -- Assumes nothing.
 use Prim.Native.Nat.{ℕ, ◌+◌, ◌-◌, ◌≤◌, ◌<◌}
-use native.Mathlib.Decide.{dec_lt, dec_le}
+use native.Mathlib.Decide.{dec_lt}
 use native.Mathlib.Omega.{arith}
 use mathlib.Core.Path.{◌≡◌, refl, sym, ◌∙◌, ap, subst}
 use mathlib.Core.Bool.{Bool, true, false, ◌&&◌}
 use mathlib.Core.List.{List}
 use borrow.Author.Tests.{ltb-true, lt-ltb, le-ltb, eq-eqb, ne_eqb}
 use lib.Dec.{ltb, eqb}
-use lib.ListN.{drop, get_or, set, length-drop}
+use lib.ListN.{drop, get_or, length-drop}
 use Rattle.symbol.specs.Word.{equal_calls}
 use Rattle.symbol.proofs.Word.{and_left}
 use Rattle.tiling.specs.Tiling.{State, run_at}
@@ -22,17 +22,11 @@ use Rattle.sweep.specs.declared.Found.{Found}
 use Rattle.bounds.specs.declared.Job.{Job}
 use Rattle.bounds.proofs.Workspace.{pattern_length}
 use Rattle.sweep.proofs.Told.{Telling, telling_none, telling_both, free_tells, bound_tells, bound_told, before_some}
-use Rattle.index.specs.Indexed.{Filtered, pattern_hash, text_hash, slot, place}
-use Rattle.index.specs.Built.{when}
+use Rattle.index.specs.Indexed.{pattern_hash, text_hash, place}
 use Rattle.index.specs.declared.pass.Pass.{Pass}
 use Rattle.rows.specs.Reached.{Reached, Looked, told_by, goes_on}
 
 -- ---- what was remembered
-pub remembered_not : (last : List ℕ) (len cap b p : ℕ) → cap ≤ len → last ≡ when (ltb len cap) (set last b p) last
-remembered_not last len cap b p h = rw (le-ltb len cap h) refl
-
-pub remembered_row : (x : Pass) (ws last last' : List ℕ) (len cap p own b : ℕ) → len < cap → own ≡ pattern_hash x.job ws p → b ≡ place own → last' ≡ set last b p → last' ≡ when (ltb len cap) (set last (place (pattern_hash x.job ws p)) p) last
-remembered_row x ws last last' len cap p own b h e f w = rw (lt-ltb len cap h, ← e, ← f) w
 
 -- ---- what a row that was remembered tells
 module _ (x : Pass) (ws last : List ℕ) (p from cap own b q : ℕ) (eo : own ≡ pattern_hash x.job ws p) (eb : b ≡ place own) (eq : q ≡ get_or last b 0) where
@@ -109,13 +103,6 @@ goes_back j ws p t b e z = before_some t j.m (ltb-true (before t j.m) j.m (and_l
 module _ (x : Pass) (ws : List ℕ) where
   abbrev st : State
   st = state x.job ws
-
-  pub bound_unknown : (p len : ℕ) → RowBound x.job st (p + 1) len → (filter : List ℕ) (own r : ℕ) → Filtered x ws filter → x.s ≤ len + 1 → own ≡ pattern_hash x.job ws p → r ≡ get_or filter (slot own) 0 → (r ≡ 2 → ⊥) → RowBound x.job st p (x.s - 1)
-  bound_unknown p len c filter own r known h e w d = record { most = λ u. go u (dec_le x.s (run_at st p u)); within = omega (arith, c.within, x.one) }
-    where
-      go : (u : ℕ) → Dec (x.s ≤ run_at st p u) → run_at st p u ≤ x.s - 1
-      go u (yes l) = absurd (d (w ∙ (rw e (known.known p u l))))
-      go u (no l) = omega (arith, l)
 
   module _ (p cap : ℕ) (c : RowBound x.job st p cap) (space : Space x.job ws) where
     pub bound_known : (last : List ℕ) (r : ℕ) → UpperFrom x.job ws (p + 1) → r ≡ told_by x ws last p (p + 1) cap → RowBound x.job st p r

@@ -186,10 +186,6 @@ module _ (x : Pass) (ws heads : List ℕ) (p : ℕ) where
     pub walk_more : (v : Walk) → v ≡ visited x ws p a w → Walked x ws heads p t' v
     walk_more v e = subst (λ y. Walked x ws heads p t' y) (sym e) walk_visited
 
-  -- A walk rises, so it ends.
-  pub walk_rises : (t t' : ℕ) (w : Walk) → Walked x ws heads p t w → t < x.job.m → t' ≡ link x.job ws t → x.job.m - t' < x.job.m - t
-  walk_rises t t' w i inside on = omega (arith, i.index.rising (bucket x.buckets (pattern_hash x.job ws p)) t inside (i.here inside), on)
-
   -- What is left of the text has no longer run.
   pub walk_end : (cap t : ℕ) (w : Walk) → Walked x ws heads p t w → x.job.m - t ≤ w.found.len → Reached ps (state x.job ws).text (x.s - 1) cap w.found
   walk_end cap t w i h = record { least = i.least; most = λ l u. go u (dec_lt u t); long = i.long; first = i.first }
@@ -200,6 +196,3 @@ module _ (x : Pass) (ws heads : List ℕ) (p : ℕ) where
 
   pub walk_past : (cap t : ℕ) (w : Walk) → Walked x ws heads p t w → x.job.m ≤ t → Reached ps (state x.job ws).text (x.s - 1) cap w.found
   walk_past cap t w i h = walk_end cap t w i (omega arith)
-
-  pub walk_cap : (cap t : ℕ) (w : Walk) → Walked x ws heads p t w → cap ≤ w.found.len → Reached ps (state x.job ws).text (x.s - 1) cap w.found
-  walk_cap cap t w i h = record { least = i.least; most = λ l. absurd (omega arith); long = i.long; first = i.first }

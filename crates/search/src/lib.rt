@@ -71,12 +71,12 @@ pub fn lay(search: Search<'_>, goal: Goal, workspace: &mut [u32], tiles: &mut [u
     let pair = search.pair;
     let settings = search.settings;
     let job = ends::open(pair.first, pair.second, pair.minimum as usize, workspace);
-    let pass = Pass {
+    let pass = Pass::new(
         job,
-        s: settings.start as usize,
-        multiplier: settings.multiplier,
-        buckets: settings.buckets as usize,
-    };
+        settings.start as usize,
+        settings.multiplier,
+        settings.buckets as usize,
+    );
     passes::tile_all(workspace, pass, tiles, ends::unlaid(job, goal))
 }
 

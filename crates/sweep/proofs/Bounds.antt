@@ -90,18 +90,8 @@ filling_none j ws from to space next =
     }
 
 module _ (j : Job) (ws₀ ws : List ℕ) (from p after : ℕ) (i : Filling j ws₀ ws from p after) where
-  -- The row before p.
-  pub before_row : from < p → RowBound j (state j ws) (p - 1 + 1) after
-  before_row h = let e : p - 1 + 1 ≡ p = omega arith in rw e i.row
-
-  pub before_upper : from < p → UpperFrom j ws (p - 1 + 1)
-  before_upper h = let e : p - 1 + 1 ≡ p = omega arith in rw e i.upper
-
   pub before_inside : from < p → p - 1 < j.n
   before_inside h = omega (arith, i.within)
-
-  pub row_fits : (q len : ℕ) → RowBound j (state j ws) q len → len ≤ 2048
-  row_fits q len c = omega (arith, c.within, i.space.short_pattern)
 
   module _ (to : ℕ) (next : NextRows j ws₀ from to) (above : from < p) (below : p ≤ to) (len : ℕ) (c : RowBound j (state j ws) (p - 1) len) where
     abbrev stored : List ℕ

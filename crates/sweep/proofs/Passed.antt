@@ -1,20 +1,19 @@
 -- What is passed over after a run. Where a row begins with one word again and again, a run of no more words than these ends at a word of the
 -- text that is none of them, and so does every run that begins within it: it is shorter.
 -- Assumes nothing.
-use Prim.Native.Nat.{ℕ, zero, suc, ◌+◌, ◌-◌, ◌≤◌, ◌<◌, max}
+use Prim.Native.Nat.{ℕ, zero, suc, ◌+◌, ◌-◌, ◌≤◌, ◌<◌}
 use native.Mathlib.Decide.{dec_le}
 use native.Mathlib.Omega.{arith}
 use mathlib.Core.Path.{◌≡◌, refl, sym, ◌∙◌, ap}
 use mathlib.Core.Bool.{false}
 use mathlib.Core.List.{List}
 use borrow.Author.Tests.{le-leb, lt-leb}
-use lib.ListN.{length, take, drop, get_or}
+use lib.ListN.{length, drop, get_or}
 use lib.Seq.{get_or-drop}
 use Rattle.symbol.specs.Word.{equal_calls, matches}
 use Rattle.symbol.specs.Sequence.{Current}
 use Rattle.symbol.proofs.Retired.{match_equal}
 use Rattle.symbol.proofs.Sequence.{current_at, current_drop}
-use Rattle.buffer.proofs.Buffer.{tail_is}
 use Rattle.tiling.specs.Run.{run, equal_run}
 use Rattle.tiling.proofs.Leading.{leading_within}
 use Rattle.tiling.proofs.Run.{run_match, run_stops, run_most}
@@ -41,9 +40,6 @@ passed_most c len skip e = go (dec_le len c)
 -- The row against itself, one word further on.
 pub repeats_none : (ps : List ℕ) → length ps ≡ 0 → 0 ≡ equal_run ps (drop 1 ps)
 repeats_none ps h = omega (arith, leading_within equal_calls ps (drop 1 ps))
-
-pub repeats_some : (ps : List ℕ) (r : ℕ) → r ≡ max 0 (equal_run ps (take (length ps - 1) (drop 1 ps))) → r ≡ equal_run ps (drop 1 ps)
-repeats_some ps r e = let w : r ≡ max 0 (equal_run ps (drop 1 ps)) = rw (tail_is 1 ps) at e in omega (arith, w)
 
 module _ (ps ts : List ℕ) (current-row : Current ps) (again : ℕ) (repeated : again ≡ equal_run ps (drop 1 ps)) where
   -- The first words of the row are one word again and again.

@@ -53,9 +53,6 @@ unfolding at_goal stopped
 goal_is j ws b k f = ap (λ n. stops_at k.goal k.covered n) f.left
 
 module _ (j : Job) (level p : ℕ) (ws b : List ℕ) (k : Totals) (f : Found) (s : Sweeping j level p ws b k) (inside : p < j.n) (full-row : bound j ws p ≡ level) (r : Searched j ws level p f) where
-  pub found_small : f.len ≤ 2048
-  found_small = r.small
-
   -- It has a bound, so it is free.
   free_row_lem : Free ws p
   free_row_lem z = omega (arith, s.fits.space.covered p inside z, s.long, s.fits.least)
@@ -103,13 +100,6 @@ module _ (j : Job) (level p : ℕ) (ws b : List ℕ) (k : Totals) (f : Found) (s
         passed q h (yes e) = rw e (omega (arith, here, r.within, short))
         passed q h (no d) = omega (arith, there q d, s.bounded.passed q (omega (arith, d)))
 
-    lowered_falling : Falling j ws (set ws (bounds_from j + p) f.len)
-    lowered_falling = record { falls = λ q h. falls q (ℕ_discrete q p) }
-      where
-        falls : (q : ℕ) → Dec (q ≡ p) → bound j (set ws (bounds_from j + p) f.len) q ≤ bound j ws q
-        falls q (yes e) = rw e (omega (arith, get_or-set_same ws (bounds_from j + p) f.len 0 (omega (arith, s.fits.space.roomy)), r.within, full-row))
-        falls q (no d) = omega (arith, get_or-set_other ws (bounds_from j + p) (bounds_from j + q) f.len 0 (λ e. d (omega arith)))
-
     lowered_onward : Onward j ws b k (set ws (bounds_from j + p) f.len) b k
     lowered_onward =
         record {
@@ -132,9 +122,6 @@ module _ (j : Job) (level p : ℕ) (ws b : List ℕ) (k : Totals) (f : Found) (s
 
       pub lowered_lays : Onward j ws b k ws' b k
       lowered_lays = subst (λ x. Onward j ws b k x b k) (sym w) lowered_onward
-
-      pub lowered_falls : Falling j ws ws'
-      lowered_falls = subst (λ x. Falling j ws x) (sym w) lowered_falling
 
   -- ---- a run of the level's length is the next tile
   module _ (full : f.len ≡ level) where
@@ -207,9 +194,6 @@ module _ (j : Job) (level p : ℕ) (ws b : List ℕ) (k : Totals) (f : Found) (s
     few_tiles =
         let m = mul-le-mul_left (k.count + 1) s.fits.least in
         omega (arith, m, mul-one (k.count + 1), each_after, few_covered)
-
-    pub covered_small : k.covered ≤ 2048
-    covered_small = omega (arith, few_covered)
 
     pub count_small : k.count ≤ 2048
     count_small = omega (arith, few_tiles)

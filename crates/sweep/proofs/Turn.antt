@@ -5,73 +5,29 @@ use Prim.Native.Nat.{ℕ, ◌+◌, ◌-◌, ◌≤◌, ◌<◌, min}
 use native.Mathlib.Decide.{dec_lt}
 use native.Mathlib.Nat.{not-suc-le-zero}
 use native.Mathlib.Omega.{arith}
-use mathlib.Core.Path.{◌≡◌, refl, sym, ◌∙◌, ap, subst}
-use mathlib.Core.Bool.{Bool, true, false}
-use mathlib.Core.List.{List, ◌++◌}
+use mathlib.Core.Path.{◌≡◌, ◌∙◌}
+use mathlib.Core.Bool.{false}
+use mathlib.Core.List.{List}
 use lib.ListN.{length, get_or}
-use Rattle.bounds.specs.Workspace.{Space, state, bound}
+use Rattle.bounds.specs.Workspace.{state, bound}
 use Rattle.bounds.specs.Greatest.{Greatest}
 use Rattle.bounds.specs.Blocks.{block_count, Covering}
 use Rattle.chain.specs.First.{First}
-use Rattle.sweep.specs.Goal.{at_goal, until_goal}
+use Rattle.sweep.specs.Goal.{at_goal}
 use Rattle.sweep.specs.Progress.{Fits, Bounded, Onward, Sweeping, Over, Ready, Finished}
 use Rattle.bounds.specs.declared.Job.{Job}
 use Rattle.sweep.specs.declared.Totals.{Totals}
-use Rattle.symbol.specs.Word.{is_call}
-use Rattle.tiling.specs.Tally.{tally}
-use Rattle.tiling.specs.Stretch.{fillable}
-use Rattle.tiling.specs.Tiling.{State, best, size, lay}
-use Rattle.tiling.specs.Greedy.{Greedy}
+use Rattle.tiling.specs.Tiling.{best}
 use Rattle.tiling.proofs.Best.{best_is}
 use Rattle.sweep.proofs.Step.{below_level}
 use Rattle.bounds.proofs.Blocks.{covering_top}
 use Rattle.bounds.proofs.Workspace.{pattern_length}
 use Rattle.stretch.proofs.Fillable.{fillable_most}
 
-pub onward_none : (j : Job) (ws b : List ℕ) (k : Totals) → Onward j ws b k ws b k
-onward_none j ws b k = record { keeps = λ s₀ b₀ l. l; aim = refl }
-
 pub onward_more : (j : Job) (ws₀ b₀ ws b ws' b' : List ℕ) (k₀ k k' : Totals) → Onward j ws₀ b₀ k₀ ws b k → Onward j ws b k ws' b' k' → Onward j ws₀ b₀ k₀ ws' b' k'
 onward_more j ws₀ b₀ ws b ws' b' k₀ k k' x y = record { keeps = λ s c l. y.keeps s c (x.keeps s c l); aim = y.aim ∙ x.aim }
 
 -- ---- where the sequences are as they were
-module _ (j : Job) (ws ws' b : List ℕ) (k : Totals) (same : state j ws' ≡ state j ws) where
-  pub unmoved_fits : Space j ws' → Fits j ws b k → Fits j ws' b k
-  unmoved_fits space f =
-      record {
-        space = space;
-        least = f.least;
-        most = f.most;
-        tile_room = f.tile_room;
-        each = f.each;
-        free = omega (arith, ap (λ u. tally is_call u.pattern) same, f.free);
-        left = f.left ∙ ap (λ (u : State). fillable j.minimum u.pattern) (sym same);
-      }
-
-  pub unmoved_onward : Onward j ws b k ws' b k
-  unmoved_onward =
-      record {
-        keeps =
-            λ s₀ b₀ l.
-            record {
-              tiles = l.tiles;
-              rest = λ ls g. l.rest ls (subst (λ u. Greedy best size lay j.minimum u ls) same g);
-              going = λ ls. l.going ls ∙ ap (λ (u : State). l.tiles ++ until_goal k.goal j.minimum (record { covered = k.covered; pattern = u.pattern }) ls) (sym same);
-              held = l.held;
-              counted = l.counted;
-              summed = l.summed;
-            };
-        aim = refl;
-      }
-
-  pub unmoved_finished : (n : ℕ) (ws₂ b₂ : List ℕ) (k₂ : Totals) → Finished j n ws' b k ws₂ b₂ k₂ → Finished j n ws b k ws₂ b₂ k₂
-  unmoved_finished n ws₂ b₂ k₂ f =
-      record {
-        fits = f.fits;
-        onward = onward_more j ws b ws' b ws₂ b₂ k k k₂ unmoved_onward f.onward;
-        short = f.short;
-      }
-
 -- ---- the goal
 -- The numbers of its test are small.
 pub few_covered : (j : Job) (ws b : List ℕ) (k : Totals) → Fits j ws b k → k.covered ≤ 2048
@@ -79,10 +35,6 @@ few_covered j ws b k f = omega (arith, f.free, f.space.short_pattern)
 
 pub few_fillable : (j : Job) (ws b : List ℕ) (k : Totals) → Fits j ws b k → k.fillable ≤ 2048
 few_fillable j ws b k f = omega (arith, f.left, fillable_most j.minimum (state j ws).pattern, pattern_length j ws f.space, f.space.short_pattern)
-
--- A comparison that is at its goal is not on its way to it.
-pub at_goal_no : (r g : Bool) → r ≡ g → r ≡ true → g ≡ false → ⊥
-at_goal_no r g e t f = let c : true ≡ false = sym t ∙ (e ∙ f) in let z : ◌≡◌ {A = ℕ} 0 1 = cc in omega arith
 
 -- ---- a sweep, from one row whose bound is the level to the next
 -- The rows passed over are below the level.

@@ -13,7 +13,7 @@ ghost use Rattle.sweep.specs.Settled.{one_more, laid_totals, settled_rows};
 ghost use Rattle.sweep.specs.Progress.{Searched, Sweeping, Onward};
 
 use bounds::{Job, View};
-use tile::{PatternAt, TextAt};
+use tile::{PatternAt, TextAt, Tile};
 
 // The longest run of a row and the first position on the text that has it.
 #[derive(Clone, Copy)]
@@ -33,7 +33,8 @@ pub struct Goal {
 }
 
 // The record of a comparison under way: the tiles laid so far, how many words they cover, and how many words of the pattern
-// further tiles may take, which are those in free stretches of at least the minimum; and its goal.
+// further tiles may take, which are those in free stretches of at least the minimum; and its goal. That tiles and words are at most 2,048
+// is asked where it matters: as ghost fields it would have to be proved in the definitions `no_tiles` and `laid_totals`, which make records.
 #[derive(Clone, Copy)]
 pub struct Totals {
     pub count: usize,
@@ -194,31 +195,31 @@ fn taken_by(view: &View<'_>, p: PatternAt, len: usize) -> usize
 }
 
 // Lays a tile and brings the record of the comparison up to date.
-fn lay_next(ws: &mut [u32], job: Job, p: PatternAt, t: TextAt, len: usize, totals: Totals) -> Totals
-    requires space { Space job ws.old × (p.0 + len ≤ job.n) × (t.0 + len ≤ job.m) × OnFree job.minimum p.0 len (state job ws.old).pattern }
+fn lay_next(ws: &mut [u32], job: Job, tile: Tile, totals: Totals) -> Totals
+    requires space { Space job ws.old × (tile.p.0 + tile.len ≤ job.n) × (tile.t.0 + tile.len ≤ job.m) × OnFree job.minimum tile.p.0 tile.len (state job ws.old).pattern }
     requires totals_known { (totals.count ≤ 2048) × (totals.covered ≤ 2048) × (totals.fillable ≡ fillable job.minimum (state job ws.old).pattern) }
-    ensures value { result ≡ laid_totals job p.0 len ws.old totals }
-    ensures ws_after { ws.new ≡ laid job p.0 t.0 len ws.old }
+    ensures value { result ≡ laid_totals job tile.p.0 tile.len ws.old totals }
+    ensures ws_after { ws.new ≡ laid job tile.p.0 tile.t.0 tile.len ws.old }
 {
     let goal = totals.goal;
-    let taken = taken_by(&View { job, words: ws }, p, len);
-    bounds::lay_tile(ws, job, p, t, len);
+    let taken = taken_by(&View { job, words: ws }, tile.p, tile.len);
+    bounds::lay_tile(ws, job, tile);
     Totals {
         count: totals.count + 1,
-        covered: totals.covered + len,
+        covered: totals.covered + tile.len,
         fillable: totals.fillable - taken,
         goal,
     }
 }
 
 // Lists a tile after those that are listed already, where tiles are listed.
-fn list(tiles: &mut [u32], job: Job, totals: Totals, p: PatternAt, t: TextAt, len: usize)
-    requires { (totals.goal.listed ≡ true → 3 * (totals.count + 1) ≤ length tiles.old) × (p.0 ≤ 2048) × (t.0 ≤ 2048) × (len ≤ 2048) × (totals.count ≤ 2048) }
-    ensures { tiles.new ≡ one_more job totals (record { p = p.0; t = t.0; len = len }) tiles.old }
+fn list(tiles: &mut [u32], job: Job, totals: Totals, tile: Tile)
+    requires { (totals.goal.listed ≡ true → 3 * (totals.count + 1) ≤ length tiles.old) × (tile.p.0 ≤ 2048) × (tile.t.0 ≤ 2048) × (tile.len ≤ 2048) × (totals.count ≤ 2048) }
+    ensures { tiles.new ≡ one_more job totals (record { p = tile.p.0; t = tile.t.0; len = tile.len }) tiles.old }
 {
     let goal = totals.goal;
     if goal.listed {
-        tile::list_tile(tiles, totals.count, job.straight, p, t, len);
+        tile::list_tile(tiles, totals.count, job.straight, tile);
     }
 }
 
@@ -242,6 +243,11 @@ pub fn settle(
     ensures onward { Onward job ws.old tiles.old totals ws.new tiles.new result }
     ensures falling { Falling job ws.old ws.new }
 {
-    list(tiles, job, totals, p, found.t, level);
-    lay_next(ws, job, p, found.t, level, totals)
+    let tile = Tile {
+        p,
+        t: found.t,
+        len: level,
+    };
+    list(tiles, job, totals, tile);
+    lay_next(ws, job, tile, totals)
 }

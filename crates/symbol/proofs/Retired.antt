@@ -133,10 +133,6 @@ pub match_replaced : (a b : ℕ) → matches (replaced a) (replaced b) ≡ match
 unfolding matches
 match_replaced a b = rw (replaced_twice a, replaced_twice b) refl
 
-pub match_current : (a b : ℕ) → replaced a ≡ a → replaced b ≡ b → matches a b ≡ equal_calls a b
-unfolding matches
-match_current a b e f = rw (e, f) refl
-
 -- ---- what the code computes: one of two words, by a test that counts as 1 or 0
 pub chosen_first : (t : Bool) (x : ℕ) → x < 2 ^ 32 → bool_byte t * x < 2 ^ 32
 chosen_first true x h = omega arith
@@ -149,10 +145,6 @@ chosen_second false y h = omega arith
 pub chosen_fits : (t : Bool) (x y : ℕ) → x < 2 ^ 32 → y < 2 ^ 32 → bool_byte t * x + (1 - bool_byte t) * y < 2 ^ 32
 chosen_fits true x y h k = omega arith
 chosen_fits false x y h k = omega arith
-
-pub one_most : (t : Bool) → bool_byte t ≤ 1
-one_most true = omega arith
-one_most false = omega arith
 
 pub entry_fits : (i : ℕ) → 0x4000_0000 + get_or replacements i 0 < 2 ^ 32
 entry_fits i = omega (arith, entry_below i)

@@ -2,7 +2,6 @@
 -- Assumes nothing.
 use Prim.Native.Nat.{ℕ, ◌+◌}
 use mathlib.Core.Path.{◌≡◌, refl, sym, ◌∙◌, ap}
-use mathlib.Core.Bool.{false}
 use mathlib.Core.List.{List}
 use lib.Dec.{leb}
 use lib.ListN.{length}
@@ -15,12 +14,9 @@ use Rattle.sweep.specs.declared.Goal.{Goal}
 use Rattle.sweep.specs.declared.Totals.{Totals}
 use Rattle.ends.specs.Result.{Ran}
 use Rattle.threshold.specs.Promise.{is_reached, told_tiles, told_answer}
-use Rattle.threshold.specs.Words.{words_for, goal_for}
+use Rattle.threshold.specs.Words.{goal_for}
 use Rattle.threshold.proofs.Words.{goal_tells, words_tell}
 use Rattle.threshold.proofs.Decided.{listing_decides}
-
-pub goal_is : (threshold total words : ℕ) → words ≡ words_for threshold total → record { listed = false; enough = words; needed = words } ≡ goal_for threshold total
-goal_is threshold total words e = ap (λ n. record { listed = false; enough = n; needed = n }) e
 
 module _ (first second : List ℕ) (minimum threshold : ℕ) (can : Comparable first second minimum) (g : Goal) (is : g ≡ goal_for threshold (length first + length second)) (b b' : List ℕ) (k : Totals) (ran : Ran first second minimum g b b' k) where
   abbrev total : ℕ

@@ -1,8 +1,8 @@
 -- The threshold as a number of covered words: just from so many words on the score is at least the threshold. So the test of the goal is
 -- the test by scores, and a comparison with this goal stops when it is told.
 -- Assumes nothing.
-use Prim.Native.Nat.{ℕ, zero, suc, ◌+◌, ◌*◌, ◌/◌, ◌^◌, ◌≤◌, ◌<◌}
-use native.Mathlib.Nat.{mul-le-mul, le-div_iff_mul-le}
+use Prim.Native.Nat.{ℕ, zero, suc, ◌+◌, ◌*◌, ◌/◌, ◌≤◌, ◌<◌}
+use native.Mathlib.Nat.{le-div_iff_mul-le}
 use native.Mathlib.Decide.{dec_le}
 use native.Mathlib.Omega.{arith}
 use mathlib.Core.Path.{◌≡◌, refl, sym, ◌∙◌, ap}
@@ -105,16 +105,6 @@ words_tell first second minimum threshold = go (length first + length second) re
     go (suc total) e = rw e (words_reach threshold total (covered (listing first second minimum)))
 
 -- ---- the numbers of the code
-module _ (threshold total : ℕ) (few : threshold ≤ 1000) (short : total ≤ 4096) where
-  product_small : threshold * total ≤ 4096000
-  product_small = omega (arith, mul-le-mul few short)
-
-  pub product_fits : threshold * total < 2 ^ 64
-  product_fits = omega (arith, product_small)
-
-  pub sum_fits : threshold * total + 1999 < 2 ^ 64
-  sum_fits = omega (arith, product_small)
-
 pub words_none : (threshold total : ℕ) → total ≡ 0 → threshold ≡ words_for threshold total
 unfolding words_for
 words_none threshold total z = rw z refl

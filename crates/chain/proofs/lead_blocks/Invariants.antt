@@ -6,4 +6,4 @@ use Rattle.chain.specs.Unlinked.{led}
 use Rattle.chain.proofs.lead_blocks.Given as goal
 
 abbrev pub invariant-loop-block : goal.invariant-loop-block
-invariant-loop-block l = l.chain ≡ led l.before l.next (l.at / 32) (l.block - l.at / 32) l.initial.chain
+invariant-loop-block l = l.chain ≡ led l.sides.before l.sides.next (l.at / 32) (l.block - l.at / 32) l.initial.chain

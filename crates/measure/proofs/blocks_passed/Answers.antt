@@ -3,16 +3,10 @@
 -- Assumes nothing.
 use native.Mathlib.Omega.{arith}
 use borrow.Author.Tests.{leb-true}
-use Rattle.measure.proofs.Blocks.{block_room, blocks_none, blocks_more, blocks_stop}
+use Rattle.measure.proofs.Blocks.{blocks_more, blocks_stop}
 use Rattle.measure.proofs.Pairs.{pairs_after, short_first, short_second}
 use borrow.Author.Rules.{rules}
 use Rattle.measure.proofs.blocks_passed.Goals as goal
-
-pub loop-n-init : goal.loop-n-init
-loop-n-init g c = (λ test told. blocks_none _, search rules, search rules)
-
-pub block_passes-requires : goal.block_passes-requires
-block_passes-requires g c = record { room = (search block_room, search (block_room, leb-true)); callable = search rules }
 
 pub loop-n-preserved : goal.loop-n-preserved
 loop-n-preserved g c = (

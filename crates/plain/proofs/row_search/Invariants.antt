@@ -3,12 +3,11 @@
 -- Assumes nothing.
 use Prim.Native.Nat.{◌-◌, ◌≤◌}
 use lib.ListN.{length}
-use Rattle.chain.specs.Chain.{Chained}
 use Rattle.plain.proofs.Seen.{Seen}
 use Rattle.plain.proofs.row_search.Given as goal
 
 abbrev pub invariant-loop-found : goal.invariant-loop-found
-invariant-loop-found l = Seen l.pattern l.text l.floor l.t l.found × (l.ended ≤ l.found.len) × Chained l.text l.chain
+invariant-loop-found l = Seen l.pattern l.text.words.now l.floor l.t l.found × (l.ended ≤ l.found.len)
 
 abbrev pub decreases-loop-found : goal.decreases-loop-found
-decreases-loop-found l = length l.text - l.t
+decreases-loop-found l = length l.text.words.now - l.t

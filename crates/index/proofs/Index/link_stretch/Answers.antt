@@ -1,18 +1,8 @@
 -- `index::Index::link_stretch` meets its contract: at the head of each turn the windows from t on are linked, each head is the first linked window of its
 -- bucket from t on, and free counts the calls from t on.
 -- Assumes nothing.
-use borrow.Author.Rules.{rules}
-use Rattle.index.proofs.Linking.{backward_none, backward_inside, backward_free, backward_more, backward_all}
+use Rattle.index.proofs.Linking.{backward_more, backward_all}
 use Rattle.index.proofs.Index.link_stretch.Goals as goal
-
-pub loop-t-init : goal.loop-t-init
-loop-t-init c = search backward_none
-
-pub free_from-free-requires : goal.free_from-free-requires
-free_from-free-requires c = (search backward_inside, search backward_free)
-
-pub link_window-requires : goal.link_window-requires
-link_window-requires c = (search rules, search backward_inside)
 
 pub loop-t-preserved : goal.loop-t-preserved
 loop-t-preserved c = record { pass_kept = cc; back = search backward_more }

@@ -10,4 +10,4 @@ pub loop-end-init : goal.loop-end-init
 loop-end-init c = record { pass_kept = refl; walk = search text_walk_first }
 
 pub link_text_stretch-requires : goal.link_text_stretch-requires
-link_text_stretch-requires c = (let e = c.loop-end.invariant.pass_kept in cc, search rules, search text_walk_here, search text_walk_texts)
+link_text_stretch-requires c = (search rules, search text_walk_here, search text_walk_texts)

@@ -3,14 +3,8 @@
 use Prim.Native.Nat.{◌<◌}
 use native.Mathlib.Omega.{arith}
 use lib.ListN.{length}
-use Rattle.index.proofs.Rows.{raising_inside, raising_more, raising_all}
+use Rattle.index.proofs.Rows.{raising_more}
 use Rattle.index.proofs.Index.raise_rows.Goals as goal
-
-pub pattern_hash-h-requires : goal.pattern_hash-h-requires
-pattern_hash-h-requires c = search raising_inside
 
 pub loop-p-preserved : goal.loop-p-preserved
 loop-p-preserved c = let room : c.slot_of.result < length c.loop-p.filter = omega arith in search raising_more
-
-pub returns-clause-raised_from : goal.returns-clause-raised_from
-returns-clause-raised_from c = search raising_all

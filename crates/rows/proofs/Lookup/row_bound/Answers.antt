@@ -2,7 +2,7 @@
 -- none of s words where the filter does not know the window.
 -- Assumes nothing.
 use Rattle.sweep.proofs.Bounds.{bound_no_call, bound_more}
-use Rattle.rows.proofs.Bounds.{bound_unknown, goes_back}
+use Rattle.rows.proofs.Bounds.{goes_back}
 use borrow.Author.Rules.{rules}
 use Rattle.rows.proofs.Lookup.row_bound.Goals as goal
 
@@ -17,9 +17,6 @@ returns-then-goes_on c = search bound_more
 
 pub returns-then-cap-self : goal.returns-then-cap-self
 returns-then-cap-self c = search bound_more
-
-pub returns-then-entry_of-ne2 : goal.returns-then-entry_of-ne2
-returns-then-entry_of-ne2 c = search bound_unknown
 
 pub capped-requires : goal.capped-requires
 capped-requires c = (search rules, search rules, search rules, search bound_more, search rules)

@@ -1,23 +1,13 @@
 -- `rows::row_search` meets its contract: at the head of each turn what was found is the longest of the runs before t, or one word less than a window.
 -- Assumes nothing.
-use Rattle.rows.proofs.Walking.{walk_none, walk_more, walk_rises, walk_end, walk_past, walk_cap}
-use borrow.Author.Rules.{rules}
+use Rattle.rows.proofs.Walking.{walk_none, walk_more, walk_end, walk_past}
 use Rattle.rows.proofs.Lookup.row_search.Goals as goal
 
 pub loop-t-init : goal.loop-t-init
 loop-t-init c = search walk_none
 
-pub visit-walk-requires : goal.visit-walk-requires
-visit-walk-requires c = (search rules, search rules, search rules)
-
-pub loop-t-smaller : goal.loop-t-smaller
-loop-t-smaller c = search walk_rises
-
 pub loop-t-preserved : goal.loop-t-preserved
 loop-t-preserved c = search walk_more
-
-pub returns-else-walk-cap : goal.returns-else-walk-cap
-returns-else-walk-cap c = search walk_cap
 
 pub returns-else-walk-view : goal.returns-else-walk-view
 returns-else-walk-view c = search walk_end
