@@ -34,7 +34,8 @@ fn rest_chooses(first: &[u32], second: &[u32], run: usize) -> bool
     first[run..].cmp(&second[run..]).is_le()
 }
 
-// Copies words to the start of a buffer, each of them replaced. Most sequences have no retired code.
+// Copies words to the start of a buffer, each of them replaced. Most sequences have no retired code. Words are stored by index, since after
+// a `zip` with the buffer's `iter_mut` a proof would know the buffer's length and none of its words.
 fn copy_replaced(words: &[u32], buffer: &mut [u32])
     requires { length words.now ≤ length buffer.old }
     ensures { buffer.new ≡ onto (map replaced words.now) buffer.old }

@@ -35,7 +35,7 @@ pub fn bucket_of(h: u32, buckets: usize) -> usize
 fn slot_of(h: u32) -> usize
     ensures { (result ≡ slot h) × (result < 4096) }
 {
-    ((h as u64) * 2654435769 % 0x1_0000_0000 / 0x10_0000) as usize
+    (h.wrapping_mul(2654435769) / 0x10_0000) as usize
 }
 
 // The place of a hash among 1,024.
@@ -111,7 +111,7 @@ pub fn first_text(heads: &[u16; 1024], bucket: usize) -> TextAt
 }
 
 // The entry of the filter for a hash: 0 where the pattern has no free window with that entry, 1 where it has one, and 2 where a
-// window of the text is linked that has it too.
+// window of the text is linked that has it too. Numbers and not an enum: `Filtered` and `Built` speak of them, and the table is begun as zeros.
 pub fn entry_of(filter: &[u8; 4096], h: u32) -> u8
     ensures { result ≡ get_or filter.now (slot h) 0 }
 {

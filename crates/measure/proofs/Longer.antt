@@ -70,8 +70,5 @@ module _ (best n : ℕ) where
       go true h = absurd (omega arith)
       go false h = refl
 
-  pub longer_not : (r : ℕ) → r ≡ counted best n → r < best → best ≡ max best n
-  longer_not r e h = omega (arith, counted_longer)
-
-  pub longer_run_lem : (r : ℕ) → r ≡ counted best n → best ≤ r → r ≡ max best n
-  longer_run_lem r e h = omega (arith, counted_longer)
+  pub longer_run_lem : (m r : ℕ) → m ≡ counted best n → r ≡ max m best → r ≡ max best n
+  longer_run_lem m r e k = omega (arith, counted_longer)

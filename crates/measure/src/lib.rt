@@ -89,11 +89,7 @@ pub fn longer_run(pattern: &[u32], text: &[u32], best: usize) -> usize
     if !symbol::equal_calls(pattern[best], text[best]) {
         return best;
     }
-    let n = measured_run(pattern, text, best);
-    if n < best {
-        return best;
-    }
-    n
+    measured_run(pattern, text, best).max(best)
 }
 
 // How many positions come before the first at which the one part has a and the other b; where none does, as many as both have.

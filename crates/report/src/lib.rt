@@ -152,10 +152,7 @@ fn pair_lines(
 fn search_length(minimum: u32) -> u32
     ensures { result ≡ max 20 minimum }
 {
-    if 20 < minimum {
-        return minimum;
-    }
-    20
+    minimum.max(20)
 }
 
 // Compares two sequences by the search, with the program's settings: multiplier 257 and 256 buckets. The tiles go to the

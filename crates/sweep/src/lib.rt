@@ -24,7 +24,8 @@ pub struct Found {
 
 // What a comparison is for: whether its tiles are listed, and where it stops: when as many words are covered as are enough, or
 // when fewer than are needed can still be. A whole comparison lists its tiles and never stops. Numbers are compared after each tile; a closure
-// in their place would carry the definition `at_goal` as a clause of its own.
+// in their place would carry the definition `at_goal` as a clause of its own, and an enum of the two goals there are would bind the laws
+// of `at_goal`, which hold of any numbers, to these two.
 #[derive(Clone, Copy)]
 pub struct Goal {
     pub listed: bool,
@@ -147,7 +148,7 @@ pub fn free_words(view: &View<'_>, p: PatternAt, cap: usize) -> usize
 pub fn repeats(row: &[u32]) -> usize
     ensures { result ≡ equal_run row.now (drop 1 row.now) }
 {
-    if row.len() == 0 {
+    if row.is_empty() {
         return 0;
     }
     measure::longer_run(row, &row[1..], 0)
@@ -224,7 +225,8 @@ fn list(tiles: &mut [u32], job: Job, totals: Totals, tile: Tile)
 }
 
 // After the row at p was searched, where its bound is the level, and so long a run was found: it is the next tile, since no run is longer and no
-// row before has one as long. (A shorter one is the row's new bound, which is all that there is to do then.)
+// row before has one as long. (A shorter one is the row's new bound, which is all that there is to do then.) Workspace, tiles and totals
+// are lent to be written, so they stay apart.
 pub fn settle(
     ws: &mut [u32],
     job: Job,

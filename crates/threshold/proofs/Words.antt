@@ -1,7 +1,7 @@
 -- The threshold as a number of covered words: just from so many words on the score is at least the threshold. So the test of the goal is
 -- the test by scores, and a comparison with this goal stops when it is told.
 -- Assumes nothing.
-use Prim.Native.Nat.{ℕ, zero, suc, ◌+◌, ◌*◌, ◌/◌, ◌≤◌, ◌<◌}
+use Prim.Native.Nat.{ℕ, zero, suc, ◌+◌, ◌*◌, ◌/◌, ◌%◌, ◌≤◌, ◌<◌, min}
 use native.Mathlib.Nat.{le-div_iff_mul-le}
 use native.Mathlib.Decide.{dec_le}
 use native.Mathlib.Omega.{arith}
@@ -109,7 +109,10 @@ pub words_none : (threshold total : ℕ) → total ≡ 0 → threshold ≡ words
 unfolding words_for
 words_none threshold total z = rw z refl
 
-pub words_some : (threshold total : ℕ) → (total ≡ 0 → ⊥) → (threshold * total + 1999) / 2000 ≡ words_for threshold total
+rounded_up : (x r : ℕ) → r ≡ x / 2000 + min 1 (x % 2000) → r ≡ (x + 1999) / 2000
+rounded_up x r e = omega (arith, e)
+
+pub words_some : (threshold total r : ℕ) → (total ≡ 0 → ⊥) → r ≡ threshold * total / 2000 + min 1 (threshold * total % 2000) → r ≡ words_for threshold total
 unfolding words_for
-words_some threshold zero d = absurd (d refl)
-words_some threshold (suc total) d = refl
+words_some threshold zero r d e = absurd (d refl)
+words_some threshold (suc total) r d e = rounded_up (threshold * suc total) r e

@@ -64,7 +64,7 @@ fn words_for(threshold: u32, total: usize) -> usize
     if total == 0 {
         return score;
     }
-    (score * total + 1999) / 2000
+    (score * total).div_ceil(2000)
 }
 
 impl<'a> Question<'a> {

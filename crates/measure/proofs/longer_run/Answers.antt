@@ -1,8 +1,7 @@
 -- `measure::longer_run` meets its contract: a run is no longer than either list, and no longer than best where the words at offset best do not
 -- match; in each of these cases best is the greater.
 -- Assumes nothing.
-use Rattle.measure.proofs.Longer.{longer_pattern, longer_text, longer_stop, longer_not, longer_run_lem}
-use borrow.Author.Rules.{rules}
+use Rattle.measure.proofs.Longer.{longer_pattern, longer_text, longer_stop, longer_run_lem}
 use Rattle.measure.proofs.longer_run.Goals as goal
 
 pub returns-then-pattern-best : goal.returns-then-pattern-best
@@ -14,8 +13,5 @@ returns-then-text-best c = search longer_text
 pub returns-then-not-equal_calls : goal.returns-then-not-equal_calls
 returns-then-not-equal_calls c = search longer_stop
 
-pub returns-then-n-best : goal.returns-then-n-best
-returns-then-n-best c = longer_not _ _ _ c.measured_run-n.ensures (search rules)
-
 pub returns : goal.returns
-returns c = longer_run_lem _ _ _ c.measured_run-n.ensures (search rules)
+returns c = longer_run_lem _ _ _ _ c.measured_run.ensures c.max.ensures
