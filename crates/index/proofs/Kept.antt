@@ -66,6 +66,25 @@ filtered_kept x ws ws' filter c f =
           rw (c.of_pattern p (row_inside x.job ws' p u (omega (arith, h, x.one)))) (f.known p u (omega (arith, h, c.shrinks p u)));
     }
 
+-- Hashes and links are as they were where what stands between the sequences and the bounds is, and what stands between the bounds and the
+-- chains; the pass may be said to be of this comparison.
+module _ (x : Pass) (j : Job) (ws ws' : List ℕ) (same : x.job ≡ j) (shrinks : (p u : ℕ) → run_at (state j ws') p u ≤ run_at (state j ws) p u) (hashes : (a : ℕ) → j.n + j.m ≤ a → a < bounds_from j → get_or ws' a 0 ≡ get_or ws a 0) (links : (a : ℕ) → bounds_from j + j.n ≤ a → a < chains_from j → get_or ws' a 0 ≡ get_or ws a 0) where
+  unmoved : Kept x.job ws ws'
+  unmoved =
+      subst (λ i. Kept i ws ws') (sym same)
+      (record {
+        shrinks = shrinks;
+        of_pattern = λ p h. hashes (j.n + j.m + p) (omega arith) (omega arith);
+        of_text = λ t h. hashes (j.n + j.m + j.n + t) (omega arith) (omega arith);
+        linked = λ t h. links (bounds_from j + j.n + t) (omega arith) (omega arith);
+      })
+
+  pub indexed_unmoved : (heads : List ℕ) → Indexed x ws heads → Indexed x ws' heads
+  indexed_unmoved heads = indexed_kept x ws ws' heads unmoved
+
+  pub filtered_unmoved : (filter : List ℕ) → Filtered x ws filter → Filtered x ws' filter
+  filtered_unmoved filter = filtered_kept x ws ws' filter unmoved
+
 -- A new bound.
 pub kept_set : (j : Job) (ws : List ℕ) (p v : ℕ) → p < j.n → Kept j ws (set ws (bounds_from j + p) v)
 kept_set j ws p v h =

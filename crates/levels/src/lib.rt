@@ -18,6 +18,11 @@ use tile::{PatternAt, TextAt};
 // How an engine searches rows. What `Serves` and `Fills` say is of the engine and of a workspace that is written between, like the blocks
 // that cover its bounds, the tile buffer and the totals: no value can hold these as they are lent, so each function asks it and says it.
 pub trait Engine {
+    // What it looks rows up in, and what that is of an engine. No search changes it; only what it remembers of rows changes.
+    ghost Tables: { Type 0 };
+
+    ghost tables: { Self → Tables };
+
     // What its tables hold of a workspace, whose rows it then can search.
     ghost Serves: { Self → Job → List ℕ → Type 0 };
 
@@ -38,6 +43,7 @@ pub trait Engine {
         ensures value { RowBound view.now.job (state view.now.job view.now.words.now) p.0 result.len }
         ensures serves { Serves self.new view.now.job view.now.words.now }
         ensures fills { Fills self.new view.now.job view.now.words.now }
+        ensures tables_kept { tables self.new ≡ tables self.old }
         ensures least_kept { (j : Job) → least self.new j ≡ least self.old j };
 
     // The first run of cap words of the row at p, whose bound that is; else a length below it that no run of the row exceeds.
@@ -45,6 +51,7 @@ pub trait Engine {
         requires { Serves self.old view.now.job view.now.words.now × (p.0 < view.now.job.n) × (least self.old view.now.job ≤ cap) × (cap ≡ bound view.now.job view.now.words.now p.0) × UpperFrom view.now.job view.now.words.now 0 }
         ensures value { Searched view.now.job view.now.words.now cap p.0 result }
         ensures serves { Serves self.new view.now.job view.now.words.now }
+        ensures tables_kept { tables self.new ≡ tables self.old }
         ensures least_kept { (j : Job) → least self.new j ≡ least self.old j };
 
     // It looks for no run below the minimum.
@@ -62,6 +69,7 @@ fn fill_stretch<E: Engine>(engine: &mut E, ws: &mut [u32], job: Job, part: Stret
     ensures filled { FilledFrom job ws.old ws.new part.from.0 }
     ensures serves { E.Serves engine.new job ws.new }
     ensures fills { E.Fills engine.new job ws.new }
+    ensures tables_kept { E.tables engine.new ≡ E.tables engine.old }
     ensures least_kept { (j : Job) → E.least engine.new j ≡ E.least engine.old j }
 {
     let mut after = Found {
@@ -80,6 +88,7 @@ pub fn fill_bounds<E: Engine>(engine: &mut E, ws: &mut [u32], job: Job)
     ensures filled { Filled job ws.old ws.new }
     ensures serves { E.Serves engine.new job ws.new }
     ensures fills { E.Fills engine.new job ws.new }
+    ensures tables_kept { E.tables engine.new ≡ E.tables engine.old }
     ensures least_kept { (j : Job) → E.least engine.new j ≡ E.least engine.old j }
 {
     let mut part = View { job, words: ws }.rows_before(PatternAt(job.n));
@@ -103,6 +112,7 @@ fn visit<E: Engine>(
     ensures onward { Onward job ws.old tiles.old totals ws.new tiles.new result }
     ensures falling { Falling job ws.old ws.new }
     ensures serves { E.Serves engine.new job ws.new }
+    ensures tables_kept { E.tables engine.new ≡ E.tables engine.old }
     ensures least_kept { (j : Job) → E.least engine.new j ≡ E.least engine.old j }
 {
     let view = View { job, words: ws };
@@ -130,6 +140,7 @@ fn step<E: Engine>(
     ensures onward { Onward job ws.old tiles.old totals ws.new tiles.new result }
     ensures covering { Covering job ws.new blocks.new }
     ensures serves { E.Serves engine.new job ws.new }
+    ensures tables_kept { E.tables engine.new ≡ E.tables engine.old }
     ensures least_kept { (j : Job) → E.least engine.new j ≡ E.least engine.old j }
 {
     let level = View { job, words: ws }.bound_of(p);
@@ -153,6 +164,7 @@ fn sweep_rows<E: Engine>(
     ensures onward { Onward job ws.old tiles.old round.totals ws.new tiles.new result }
     ensures covering { Covering job ws.new blocks.new }
     ensures serves { E.Serves engine.new job ws.new }
+    ensures tables_kept { E.tables engine.new ≡ E.tables engine.old }
     ensures least_kept { (j : Job) → E.least engine.new j ≡ E.least engine.old j }
 {
     let level = round.level;
@@ -187,15 +199,16 @@ pub fn lay_levels<E: Engine>(
     totals: Totals,
 ) -> Totals
     requires { Ready job ws.old tiles.old totals × Covering job ws.old blocks.old × E.Serves engine.old job ws.old }
-    ensures { Finished job (E.least engine.old job) ws.old tiles.old totals ws.new tiles.new result }
+    ensures finished { Finished job (E.least engine.old job) ws.old tiles.old totals ws.new tiles.new result }
+    ensures tables_kept { E.tables engine.new ≡ E.tables engine.old }
 {
     let least = engine.least_run(job);
     let mut sum = totals;
-    let mut level = View { job, words: ws }.top(blocks);
+    let mut level = bounds::top(blocks, job);
     while least <= level && !sweep::at_goal(sum) {
         let round = Round { level, totals: sum };
         sum = sweep_rows(engine, ws, job, blocks, tiles, round);
-        level = (level - 1).min(View { job, words: ws }.top(blocks));
+        level = (level - 1).min(bounds::top(blocks, job));
     }
     sum
 }
@@ -209,7 +222,8 @@ pub fn lay_all<E: Engine>(
     totals: Totals,
 ) -> Totals
     requires { Fits job ws.old tiles.old totals × E.Serves engine.old job ws.old × E.Fills engine.old job ws.old }
-    ensures { Finished job (E.least engine.old job) ws.old tiles.old totals ws.new tiles.new result }
+    ensures finished { Finished job (E.least engine.old job) ws.old tiles.old totals ws.new tiles.new result }
+    ensures tables_kept { E.tables engine.new ≡ E.tables engine.old }
 {
     fill_bounds(engine, ws, job);
     let mut blocks = [0u32; 64];

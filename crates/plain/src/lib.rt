@@ -176,6 +176,10 @@ impl Engine for Scan {
     ghost use Rattle.std.proofs.Common.{arith};
     ghost use Rattle.std.specs.Prelude.{⊤};
 
+    ghost Tables = { Unit {0} };
+
+    ghost tables = { λ e. tt };
+
     ghost Serves = { λ e j ws. (1 ≤ j.minimum) × (j.minimum ≤ 256) };
 
     ghost Fills = { λ e j ws. ⊤ };

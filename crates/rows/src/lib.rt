@@ -9,7 +9,8 @@ ghost use Rattle.bounds.specs.Workspace.{Space, state};
 ghost use Rattle.sweep.specs.Progress.{UpperFrom, RowBound};
 ghost use Rattle.index.specs.Indexed.{Indexed, Filtered, pattern_hash, text_hash, place};
 ghost use Rattle.index.specs.Built.{when};
-ghost use Rattle.rows.specs.Serving.{Serving, serving_enough, serving_kept, filling_kept};
+ghost use Rattle.index.specs.declared.Index.{Index};
+ghost use Rattle.rows.specs.Serving.{Serving};
 ghost use Rattle.rows.specs.Reached.{Reached, Looked, Within, may_be_longer, after_run, visited, Begun, told_by, goes_on};
 
 use bounds::{Job, View};
@@ -325,6 +326,13 @@ pub struct Finder {
 }
 
 impl Engine for Finder {
+    ghost use Rattle.std.proofs.Common.{subst};
+    ghost use Rattle.index.proofs.Kept.{indexed_unmoved, filtered_unmoved};
+
+    ghost Tables = { Index };
+
+    ghost tables = { λ e. e.index };
+
     ghost Serves = { λ e j ws. Serving e.index.pass e.index.heads j ws };
 
     ghost Fills = { λ e j ws. Filtered e.index.pass ws e.index.filter };
@@ -353,9 +361,9 @@ impl Engine for Finder {
         look.find(&mut self.last, p, cap)
     }
 
-    ghost enough = { λ e j ws s. serving_enough e.index.pass e.index.heads j ws s };
+    ghost enough = { λ e j ws s. record { some = e.index.pass.one; long = subst (λ k. k.minimum ≤ e.index.pass.s) s.job e.index.pass.enough } };
 
-    ghost kept = { λ e j ws ws' k s. serving_kept e.index.pass e.index.heads j ws ws' k s };
+    ghost kept = { λ e j ws ws' k s. record { job = s.job; indexed = indexed_unmoved e.index.pass j ws ws' s.job k.shrinks k.hashes k.links e.index.heads s.indexed } };
 
-    ghost fills_kept = { λ e j ws ws' k s f. filling_kept e.index.pass e.index.heads e.index.filter j ws ws' k s f };
+    ghost fills_kept = { λ e j ws ws' k s f. filtered_unmoved e.index.pass j ws ws' s.job k.shrinks k.hashes k.links e.index.filter f };
 }

@@ -11,7 +11,7 @@ fill_stretch-requires g c = let stretching = c.loop-part.invariant.0 in (search 
 
 pub loop-part-preserved : goal.loop-part-preserved
 loop-part-preserved g c = let e = c.fill_stretch.ensures in let stretching = c.loop-part.invariant.0 in
-    (search stretching_more, search rules, search rules, λ j. e.least_kept j ∙ c.loop-part.invariant.3 j)
+    (search stretching_more, search rules, search rules, e.tables_kept ∙ c.loop-part.invariant.3, λ j. e.least_kept j ∙ c.loop-part.invariant.4 j)
 
 pub returns-clause-filled : goal.returns-clause-filled
 returns-clause-filled g c = let stretching = c.loop-part.invariant.0 in search stretching_all

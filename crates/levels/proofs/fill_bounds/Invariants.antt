@@ -11,6 +11,7 @@ invariant-loop-part g l =
     Stretching l.job l.initial.ws l.ws l.part.from.0 l.part.to.0
     × g.E.Engine.Serves l.engine l.job l.ws
     × g.E.Engine.Fills l.engine l.job l.ws
+    × (g.E.Engine.tables l.engine ≡ g.E.Engine.tables l.initial.engine)
     × ((j : Job) → g.E.Engine.least l.engine j ≡ g.E.Engine.least l.initial.engine j)
 
 abbrev pub decreases-loop-part : goal.decreases-loop-part

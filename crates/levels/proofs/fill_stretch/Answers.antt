@@ -11,4 +11,4 @@ pub loop-p-preserved : goal.loop-p-preserved
 loop-p-preserved g c = let e = c.row_bound-after.ensures in let filling = c.loop-p.invariant.0 in let bound = e.value in
     let changed = c.set_bound.ensures in
     let keeps : Kept c.args.job c.loop-p.ws c.set_bound.new.ws = search (kept_set, before_inside) in
-    (search filling_more, g.met.E.Engine.kept _ _ _ _ keeps e.serves, g.met.E.Engine.fills_kept _ _ _ _ keeps e.serves e.fills, λ j. e.least_kept j ∙ c.loop-p.invariant.3 j)
+    (search filling_more, g.met.E.Engine.kept _ _ _ _ keeps e.serves, g.met.E.Engine.fills_kept _ _ _ _ keeps e.serves e.fills, e.tables_kept ∙ c.loop-p.invariant.3, λ j. e.least_kept j ∙ c.loop-p.invariant.4 j)

@@ -11,4 +11,5 @@ invariant-loop-p g l =
     Filling l.job l.initial.ws l.ws l.p-start l.p l.after.len
     × g.E.Engine.Serves l.engine l.job l.ws
     × g.E.Engine.Fills l.engine l.job l.ws
+    × (g.E.Engine.tables l.engine ≡ g.E.Engine.tables l.initial.engine)
     × ((j : Job) → g.E.Engine.least l.engine j ≡ g.E.Engine.least l.initial.engine j)

@@ -10,7 +10,7 @@ at_goal-requires g c = let level = c.loop-level.invariant.0 in (search few_cover
 
 pub loop-level-preserved : goal.loop-level-preserved
 loop-level-preserved g c = let e = c.sweep_rows-sum.ensures in let level = c.loop-level.invariant.0 in
-    (search level_more, e.serves, λ j. e.least_kept j ∙ c.loop-level.invariant.2 j)
+    (search level_more, e.serves, e.tables_kept ∙ c.loop-level.invariant.2, λ j. e.least_kept j ∙ c.loop-level.invariant.3 j)
 
-pub returns-after-loop-level : goal.returns-after-loop-level
-returns-after-loop-level g c = let level = c.loop-level.invariant.0 in rw (← c.least_run-least.ensures) (search level_done)
+pub returns-after-loop-level-clause-finished : goal.returns-after-loop-level-clause-finished
+returns-after-loop-level-clause-finished g c = let level = c.loop-level.invariant.0 in rw (← c.least_run-least.ensures) (search level_done)

@@ -10,6 +10,7 @@ abbrev pub invariant-loop-level : goal.invariant-loop-level
 invariant-loop-level g l =
     Level l.job l.least l.initial.ws l.initial.tiles l.initial.sum l.ws l.tiles l.sum l.blocks l.level
     × g.E.Engine.Serves l.engine l.job l.ws
+    × (g.E.Engine.tables l.engine ≡ g.E.Engine.tables l.initial.engine)
     × ((j : Job) → g.E.Engine.least l.engine j ≡ g.E.Engine.least l.initial.engine j)
 
 abbrev pub decreases-loop-level : goal.decreases-loop-level

@@ -10,4 +10,4 @@ at_goal-requires g c = let swept = c.loop-p.invariant.0 in (search few_covered, 
 
 pub loop-p-preserved : goal.loop-p-preserved
 loop-p-preserved g c = let e = c.step-sum.ensures in let swept = c.loop-p.invariant.0 in
-    (search swept_more, e.serves, λ j. e.least_kept j ∙ c.loop-p.invariant.2 j)
+    (search swept_more, e.serves, e.tables_kept ∙ c.loop-p.invariant.2, λ j. e.least_kept j ∙ c.loop-p.invariant.3 j)

@@ -11,6 +11,7 @@ abbrev pub invariant-loop-p : goal.invariant-loop-p
 invariant-loop-p g l =
     Swept l.job l.level l.initial.ws l.initial.tiles l.initial.sum l.ws l.tiles l.sum l.blocks l.p.0
     × g.E.Engine.Serves l.engine l.job l.ws
+    × (g.E.Engine.tables l.engine ≡ g.E.Engine.tables l.initial.engine)
     × ((j : Job) → g.E.Engine.least l.engine j ≡ g.E.Engine.least l.initial.engine j)
 
 abbrev pub decreases-loop-p : goal.decreases-loop-p
