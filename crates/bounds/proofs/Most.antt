@@ -36,6 +36,13 @@ seen_more words i r s g h e =
     one z (yes m) = record { at = i; below = omega arith; here = omega (arith, e) }
     one z (no m) = let a = g.greatest.one (omega (arith, e, m)) in record { at = a.at; below = omega (arith, a.below); here = omega (arith, a.here, e, m) }
 
+pub seen_all : (words : List ℕ) (i r : ℕ) → Seen words i r → length words ≤ i → Greatest (λ k. get_or words k 0) (length words) r
+seen_all words i r g h = let e : i ≡ length words = omega (arith, g.within) in rw e at g.greatest
+
+-- The same where the number of words is known beforehand.
+pub seen_known : (words : List ℕ) (i r n : ℕ) → Seen words i r → n ≤ i → length words ≡ n → Greatest (λ k. get_or words k 0) (length words) r
+seen_known words i r n g h long = seen_all words i r g (omega arith)
+
 -- The greatest of the same numbers, and of the words of a part.
 pub greatest_same : (f g : ℕ → ℕ) (n r : ℕ) → ((i : ℕ) → i < n → f i ≡ g i) → Greatest f n r → Greatest g n r
 greatest_same f g n r same d =

@@ -52,6 +52,34 @@ fn greatest(words: &[u32]) -> u32
     most
 }
 
+// The greatest of the 32 words of a whole block: the compiler knows how many they are, and takes several at once.
+fn greatest_of_block(block: &[u32; 32]) -> u32
+    ensures { Greatest (λ i. get_or block.now i 0) (length block.now) result }
+{
+    let mut most = 0u32;
+    for word in block {
+        most = most.max(*word);
+    }
+    most
+}
+
+// How many blocks of 32 rows there are.
+fn block_count(job: Job) -> usize
+    requires { job.n ≤ 2048 }
+    ensures { result ≡ block_count job }
+{
+    job.n.div_ceil(32)
+}
+
+// The greatest of all blocks.
+pub fn top(blocks: &[u32; 64], job: Job) -> usize
+    requires { job.n ≤ 2048 }
+    ensures { Greatest (λ b. get_or blocks.now b 0) (block_count job) result }
+{
+    let count = block_count(job);
+    greatest(&blocks[..count]) as usize
+}
+
 // The next block from one on, of so many, that is not below the level; their number where there is none.
 fn next_block(blocks: &[u32; 64], level: usize, from: usize, count: usize) -> usize
     requires { (from ≤ count) × (count ≤ 64) }
@@ -75,8 +103,7 @@ impl<'a> View<'a> {
         self.words[at] as usize
     }
 
-    // The greatest bound of the rows from `from` up to `to`. Of a whole block the compiler knows how many they are, and takes several at
-    // once.
+    // The greatest bound of the rows from `from` up to `to`.
     fn greatest_bound(&self, from: usize, to: usize) -> u32
         requires { (from ≤ to) × (to ≤ self.now.job.n) }
         ensures { Greatest (λ i. bound self.now.job self.now.words.now (from + i)) (to - from) result }
@@ -84,24 +111,9 @@ impl<'a> View<'a> {
         let start = 2 * (self.job.n + self.job.m);
         let rows = &self.words[start + from..start + to];
         match rows.as_array::<32>() {
-            Some(block) => greatest(block),
+            Some(block) => greatest_of_block(block),
             None => greatest(rows),
         }
-    }
-
-    // How many blocks of 32 rows there are.
-    fn block_count(&self) -> usize
-        ensures { result ≡ block_count self.now.job }
-    {
-        self.job.n.div_ceil(32)
-    }
-
-    // The greatest of all blocks.
-    pub fn top(&self, blocks: &[u32; 64]) -> usize
-        ensures { Greatest (λ b. get_or blocks.now b 0) (block_count self.now.job) result }
-    {
-        let count = self.block_count();
-        greatest(&blocks[..count]) as usize
     }
 
     // Sets the greatest bound of a block of 32 rows anew.
@@ -129,7 +141,7 @@ impl<'a> View<'a> {
     pub fn refresh(&self, blocks: &mut [u32; 64])
         ensures { Refreshed self.now.job self.now.words.now 0 (block_count self.now.job) blocks.old blocks.new }
     {
-        self.set_blocks(blocks, 0, self.block_count());
+        self.set_blocks(blocks, 0, block_count(self.job));
     }
 
     // Whether row q stands in the block of row p and has the level for its bound.
@@ -235,7 +247,7 @@ impl<'a, 'b> LevelRows<'a, 'b> {
     {
         let b = p / 32;
         if (self.blocks[b] as usize) < self.level {
-            let count = self.view.block_count();
+            let count = block_count(self.view.job);
             return (32 * next_block(self.blocks, self.level, b + 1, count)).min(self.view.job.n);
         }
         self.row_along(p)
