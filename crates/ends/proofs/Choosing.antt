@@ -1,27 +1,21 @@
--- How the pattern of two sequences of one length is chosen: where the words before i are equal, those from i on choose, as lists are ordered.
--- It is asked after the run that both begin with: equal calls are equal words.
+-- The loop that chooses the pattern of two sequences of one length: the words before i are equal, so those from i on choose. It begins after
+-- the run that both begin with: equal calls are equal words.
 -- Assumes nothing.
-use Prim.Native.Nat.{ℕ, zero, suc, ◌+◌, ◌-◌, ◌≤◌, ◌<◌, max}
+use Prim.Native.Nat.{ℕ, zero, suc, ◌+◌, ◌≤◌, ◌<◌, max}
 use native.Mathlib.Omega.{arith}
 use native.Mathlib.Numerals.{add-one}
 use mathlib.Core.Path.{◌≡◌, refl, sym, ◌∙◌}
-use mathlib.Core.Bool.{Bool, true, false}
-use mathlib.Core.List.{List, [], ◌∷◌}
-use lib.Dec.{eqb, ltb}
-use Rattle.std.proofs.Common.{cond, Ordering}
-use Rattle.std.proofs.lemmas.Bool.Decides.{nat_tests}
-use Rattle.std.proofs.lemmas.Cmp.{same_from_slice_cmp}
-use Rattle.std.specs.Ordering.{nat_cmp, is_le}
-use Rattle.std.specs.Cmp.Lexicographic.{slice_cmp}
-use Rattle.std.proofs.lemmas.List.{take_all}
-use lib.ListN.{length, take, drop, get_or, length-drop}
+use mathlib.Core.Bool.{true}
+use mathlib.Core.List.{List}
+use lib.Dec.{ltb}
+use lib.ListN.{length, drop, get_or, drop_of_length-le}
 use lib.Seq.{drop-cons}
 use Rattle.symbol.specs.Word.{equal_calls}
 use Rattle.symbol.proofs.Word.{calls_equal}
 use Rattle.tiling.specs.Run.{equal_run}
 use Rattle.tiling.proofs.Leading.{leading_within, leading_passes}
 use Rattle.tiling.specs.Choice.{first_by_words, first_is_pattern}
-use Rattle.tiling.proofs.Choice.{words_equal, by_words, by_length}
+use Rattle.tiling.proofs.Choice.{words_equal, words_differ, by_words, by_length}
 
 pub record Alike (first second : List ℕ) (i : ℕ) : Type 0 where
   pub long : length first ≡ length second
@@ -54,31 +48,12 @@ module _ (first second : List ℕ) (i : ℕ) (a : Alike first second i) where
           chosen = a.chosen ∙ rw (drop-cons first i 0 h, drop-cons second i 0 second_too, add-one i) (words_equal x y _ _ e);
         }
 
--- ---- the rest, as lists are ordered
--- `<=` on lists: of one that ends first it says yes.
-abbrev upto : List ℕ → List ℕ → Bool
-upto [] ys = true
-upto (x ∷ xs) [] = false
-upto (x ∷ xs) (y ∷ ys) = cond (eqb x y) (upto xs ys) (ltb x y)
+    pub word_chooses : (x ≡ y → ⊥) → ltb x y ≡ first_is_pattern first second
+    word_chooses d = sym (a.chosen ∙ rw (drop-cons first i 0 h, drop-cons second i 0 second_too) (words_differ x y _ _ d))
 
-is_upto : (xs ys : List ℕ) (o : Ordering) → o ≡ slice_cmp nat_cmp xs ys → is_le o ≡ upto xs ys
-is_upto = same_from_slice_cmp nat_cmp is_le upto refl (λ _ _. refl) (λ _ _. refl) (λ x y xs ys o h. grind (arith, nat_tests))
-
--- Of lists of one length it says what the choice by words does.
-upto_chooses : (xs ys : List ℕ) → length xs ≡ length ys → upto xs ys ≡ first_by_words xs ys
-unfolding first_by_words
-upto_chooses [] ys h = refl
-upto_chooses (a ∷ xs) [] h = absurd (omega arith)
-upto_chooses (a ∷ xs) (b ∷ ys) h = next (eqb a b) (upto_chooses xs ys (omega arith))
-  where
-    next : (same : Bool) → upto xs ys ≡ first_by_words xs ys → cond same (upto xs ys) (ltb a b) ≡ elim same [ true ↦ first_by_words xs ys | false ↦ ltb a b ]
-    next true e = e
-    next false e = refl
-
-pub rest_ordered : (first second : List ℕ) (i : ℕ) (o : Ordering) → i ≤ length first → length first ≡ length second → o ≡ slice_cmp nat_cmp (take (length first - i) (drop i first)) (take (length second - i) (drop i second)) → is_le o ≡ first_by_words (drop i first) (drop i second)
-rest_ordered first second i o h e k =
-    let all : (xs : List ℕ) → take (length xs - i) (drop i xs) ≡ drop i xs = λ xs. take_all (length xs - i) (drop i xs) (omega (arith, length-drop i xs)) in
-    is_upto (drop i first) (drop i second) o (rw (all first, all second) at k) ∙ upto_chooses (drop i first) (drop i second) (omega (arith, length-drop i first, length-drop i second))
+  pub none_differs : length first ≤ i → true ≡ first_is_pattern first second
+  unfolding first_by_words
+  none_differs h = sym (a.chosen ∙ rw (drop_of_length-le first h) refl)
 
 -- The words of a run.
 alike_upto : (first second : List ℕ) → length first ≡ length second → (i : ℕ) → i ≤ equal_run first second → Alike first second i

@@ -3,10 +3,10 @@
 // another and knows nothing of either.
 #![tactic(auto)]
 
-ghost use Rattle.std.specs.Prelude.{◌≡◌, ◌++◌, map, ◌+◌, ◌*◌, ◌≤◌, length, drop, replicate, Ok};
+ghost use Rattle.std.specs.Prelude.{◌≡◌, ◌++◌, map, ◌+◌, ◌*◌, ◌≤◌, length, replicate, Ok};
 ghost use Rattle.symbol.specs.Word.{replaced};
 ghost use Rattle.buffer.specs.Buffer.{onto};
-ghost use Rattle.tiling.specs.Choice.{first_by_words, first_is_pattern};
+ghost use Rattle.tiling.specs.Choice.{first_is_pattern};
 ghost use Rattle.tiling.specs.Outcome.{compared_as};
 ghost use Rattle.ends.specs.Ends.{whole_goal, begun, Opened, no_tiles, Closed};
 
@@ -23,15 +23,14 @@ fn first_is_pattern(first: &[u32], second: &[u32]) -> bool
         return first.len() < second.len();
     }
     let run = measure::longer_run(first, second, 0);
-    rest_chooses(first, second, run)
-}
-
-// The same of two sequences of one length whose first words, as many as the run has, are equal: the rest of them is compared as lists are.
-fn rest_chooses(first: &[u32], second: &[u32], run: usize) -> bool
-    requires { (run ≤ length first.now) × (length first.now ≡ length second.now) }
-    ensures { result ≡ first_by_words (drop run first.now) (drop run second.now) }
-{
-    first[run..].cmp(&second[run..]).is_le()
+    for i in run..first.len() {
+        let a = first[i];
+        let b = second[i];
+        if a != b {
+            return a < b;
+        }
+    }
+    true
 }
 
 // Copies words to the start of a buffer, each of them replaced. Most sequences have no retired code. Words are stored by index, since after

@@ -1,15 +1,20 @@
--- `ends::first_is_pattern` meets its contract: the lengths choose where they differ; else the words after the run that both begin with do.
+-- `ends::first_is_pattern` meets its contract: the lengths choose where they differ; else the words before i are equal, at first those of
+-- the run that both begin with, and the first that differ choose.
 -- Assumes nothing.
-use borrow.Author.Rules.{rules}
-use mathlib.Core.Path.{sym, ◌∙◌}
-use Rattle.ends.proofs.Choosing.{lengths_choose, alike_run}
+use Rattle.ends.proofs.Choosing.{lengths_choose, alike_more, word_chooses, none_differs, alike_run}
 use Rattle.ends.proofs.first_is_pattern.Goals as goal
 
 pub returns-then-first-second : goal.returns-then-first-second
 returns-then-first-second c = search lengths_choose
 
-pub rest_chooses-requires : goal.rest_chooses-requires
-rest_chooses-requires c = let alike = alike_run c.args.first.now c.args.second.now _ (search rules) c.longer_run-run.ensures in (alike.within, alike.long)
+pub loop-i-init : goal.loop-i-init
+loop-i-init c = search alike_run
+
+pub returns-then-a-b : goal.returns-then-a-b
+returns-then-a-b c = search word_chooses
+
+pub loop-i-preserved : goal.loop-i-preserved
+loop-i-preserved c = search alike_more
 
 pub returns : goal.returns
-returns c = let alike = alike_run c.args.first.now c.args.second.now _ (search rules) c.longer_run-run.ensures in c.rest_chooses.ensures ∙ sym alike.chosen
+returns c = search none_differs
