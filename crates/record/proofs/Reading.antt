@@ -1,7 +1,6 @@
 -- Why the code's test of the last word is a cause of read_refusal (a word has kind 3 and the right sum just when it is the trailer), what an
 -- accepted src is known to be, and what decides in a chain that begins with its faults.
 -- Assumes nothing.
-use borrow.Author.Rules.{rules}
 use Prim.Native.Nat.{ℕ, ◌+◌, ◌-◌, ◌≤◌}
 use native.Mathlib.Omega.{arith}
 use native.Mathlib.Numerals.{add-one}
@@ -15,9 +14,9 @@ use Rattle.symbol.specs.Word.{kind, low}
 use Rattle.symbol.specs.Sequence.{all_sound}
 use Rattle.symbol.proofs.Word.{and_both, and_left, and_right}
 use Rattle.record.specs.Format.{trailer}
-use Rattle.record.specs.Reading.{head, count, sequence, closes, frame, fault, read_refusal}
+use Rattle.record.specs.Reading.{head, count, sequence, closes, frame, content, fault, read_refusal}
 use Rattle.record.proofs.Format.{kind_trailer, low_trailer, trailer_parts}
-use Rattle.refusal.proofs.Causes.{clear}
+use Rattle.refusal.proofs.Causes.{never_none, clear, Part, part_end, part_cause, part_then, part_stops, part_goes}
 use Rattle.refusal.specs.Number.{number}
 use Rattle.refusal.specs.declared.Refusal.{Refusal}
 
@@ -58,6 +57,20 @@ module _ (src : List ℕ) (n t : ℕ) (whole : count src + 2 ≤ length src) (c 
       go : (b : Bool) → closes src ≡ b → not b ≡ true
       go true d = absurd (k (ap (λ i. get_or src (i + 1) 0) c ∙ (closes_trailer src d ∙ sym is_trailer)))
       go false d = refl
+
+-- ---- the parts of the chain
+frame_part : (src : List ℕ) → Part (frame src)
+frame_part src =
+    part_cause _ (eqb (length src) 0) 8 (lit< tt)
+    (part_cause _ (not (eqb (kind (head src)) 0)) 9 (lit< tt)
+    (part_cause _ (ltb 2048 (count src)) 9 (lit< tt)
+    (part_cause _ (ltb (length src) (count src + 2)) 8 (lit< tt) part_end)))
+
+content_part : (src : List ℕ) → Part (content src)
+content_part src = part_cause _ (not (all_sound (sequence src))) 2 (lit< tt) (part_cause _ (not (closes src)) 10 (lit< tt) part_end)
+
+pub fault_part : (src : List ℕ) → Part (fault src)
+fault_part src = part_then (frame src) (content src) (frame_part src) (content_part src)
 
 -- ---- what is known where no cause holds
 -- What a frame without a cause is known to be.
@@ -132,9 +145,13 @@ accepted_fits src room e = ltb-false _ _ (clear (ltb room (count src)) 11 0 (lit
 pub read_accepts : (src : List ℕ) (room : ℕ) → Recorded src → count src ≤ room → read_refusal src room ≡ 0
 read_accepts src room a fits = no_fault src _ a ∙ rw (le-ltb room (count src) fits) refl
 
+-- ---- what the code of a part answered, carried to the whole chain
+pub frame_stops : (src : List ℕ) (e : Refusal) (later : ℕ) → number e ≡ frame src 0 → number e ≡ frame src later
+frame_stops src e later h = part_stops (frame src) (frame_part src) (number e) later h (never_none e)
+
 -- ---- a chain that begins with the faults of src: a fault stops it, and where there is none what is checked later decides
 pub fault_stops : (src : List ℕ) (e : Refusal) (later : ℕ) → number e ≡ fault src 0 → number e ≡ fault src later
-fault_stops src e later h = search rules
+fault_stops src e later h = part_stops (fault src) (fault_part src) (number e) later h (never_none e)
 
 pub fault_passed : (src : List ℕ) (r later : ℕ) → 0 ≡ fault src 0 → r ≡ later → r ≡ fault src later
-fault_passed src r later z h = search rules
+fault_passed src r later z h = part_goes (fault src) (fault_part src) 0 r later z refl h

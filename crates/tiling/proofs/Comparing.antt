@@ -1,5 +1,6 @@
--- The chain of a comparison's refusals, part by part: what each part says where none of its causes holds, and that it then leaves the number to
--- the later parts. Each part asks the same of both sequences, so exchanging them changes no number.
+-- The chain of a comparison's refusals, part by part: what each part says where none of its causes holds, that it then leaves the number to
+-- the later parts, and how what the code of a part answered is carried to the whole chain. Each part asks the same of both sequences, so
+-- exchanging them changes no number.
 -- Assumes nothing.
 use Prim.Native.Nat.{ℕ, ◌+◌, ◌*◌, ◌/◌, ◌≤◌, min}
 use native.Mathlib.Omega.{arith}
@@ -13,9 +14,8 @@ use Rattle.symbol.specs.Sequence.{all_sound, too_long}
 use Rattle.refusal.specs.Refusal.{refuse}
 use Rattle.refusal.specs.Number.{number}
 use Rattle.refusal.specs.declared.Refusal.{Refusal}
-use Rattle.refusal.proofs.Causes.{refuse_swap, clear}
-use Rattle.refusal.proofs.Number.{stops, stopped}
-use Rattle.tiling.specs.Comparing.{sequences, minimums, settings, room, plain_refusal, search_checks, fast_checks, fast_refusal, Comparable, InRange, Roomy}
+use Rattle.refusal.proofs.Causes.{never_none, refuse_swap, clear, Part, part_end, part_cause, part_then, part_stops}
+use Rattle.tiling.specs.Comparing.{sequences, minimums, settings, workspaces, room, plain_refusal, search_checks, fast_checks, fast_refusal, Comparable, InRange, Roomy}
 
 -- ---- no cause holds
 record SequencesClear (first second : List ℕ) (later : ℕ) : Type 0 where
@@ -212,43 +212,59 @@ fast_checks_exchange first second minimum buckets start workspace tiles later =
     search_checks_exchange first second minimum buckets start _
     ∙ ap (search_checks second first minimum buckets start) (room_exchange (length first) (length second) minimum workspace tiles later)
 
--- ---- a refusal in a part stops the chain, whatever is checked later
-sequences_stop : (first second : List ℕ) (e : Refusal) {x y : ℕ} → (number e ≡ x → number e ≡ y) → number e ≡ sequences first second x → number e ≡ sequences first second y
-sequences_stop first second e f =
-    stops e (too_long first) 1
-    (stops e (too_long second) 1
-    (stops e (not (all_sound first)) 2
-    (stops e (not (all_sound second)) 2 f)))
+-- ---- the parts of the chain
+sequences_part : (first second : List ℕ) → Part (sequences first second)
+sequences_part first second =
+    part_cause _ (too_long first) 1 (omega arith)
+    (part_cause _ (too_long second) 1 (omega arith)
+    (part_cause _ (not (all_sound first)) 2 (omega arith) (part_cause _ (not (all_sound second)) 2 (omega arith) part_end)))
 
-minimums_stop : (minimum : ℕ) (e : Refusal) {x y : ℕ} → (number e ≡ x → number e ≡ y) → number e ≡ minimums minimum x → number e ≡ minimums minimum y
-minimums_stop minimum e f = stops e (eqb minimum 0) 3 (stops e (ltb 256 minimum) 3 f)
+minimums_part : (minimum : ℕ) → Part (minimums minimum)
+minimums_part minimum = part_cause _ (eqb minimum 0) 3 (omega arith) (part_cause _ (ltb 256 minimum) 3 (omega arith) part_end)
 
-settings_stop : (minimum buckets start : ℕ) (e : Refusal) {x y : ℕ} → (number e ≡ x → number e ≡ y) → number e ≡ settings minimum buckets start x → number e ≡ settings minimum buckets start y
-settings_stop minimum buckets start e f =
-    stops e (eqb buckets 0) 4
-    (stops e (ltb 1024 buckets) 4
-    (stops e (ltb start minimum) 5
-    (stops e (ltb 2048 start) 5 f)))
+comparable_part : (first second : List ℕ) (minimum : ℕ) → Part (λ k. sequences first second (minimums minimum k))
+comparable_part first second minimum = part_then (sequences first second) (minimums minimum) (sequences_part first second) (minimums_part minimum)
 
-room_stop : (n m minimum workspace tiles : ℕ) (e : Refusal) {x y : ℕ} → (number e ≡ x → number e ≡ y) → number e ≡ room n m minimum workspace tiles x → number e ≡ room n m minimum workspace tiles y
-room_stop n m minimum workspace tiles e f =
-    stops e (ltb workspace (4 * (n + m))) 6
-    (stops e (ltb tiles (3 * (min n m / minimum))) 7 f)
+settings_part : (minimum buckets start : ℕ) → Part (settings minimum buckets start)
+settings_part minimum buckets start =
+    part_cause _ (eqb buckets 0) 4 (omega arith)
+    (part_cause _ (ltb 1024 buckets) 4 (omega arith)
+    (part_cause _ (ltb start minimum) 5 (omega arith) (part_cause _ (ltb 2048 start) 5 (omega arith) part_end)))
+
+-- The check of the workspace is one by itself too: a service that lists no tile has no other of the room.
+pub workspace_part : (n m workspace : ℕ) → Part (workspaces n m workspace)
+workspace_part n m workspace = part_cause _ (ltb workspace (4 * (n + m))) 6 (omega arith) part_end
+
+room_part : (n m minimum workspace tiles : ℕ) → Part (room n m minimum workspace tiles)
+room_part n m minimum workspace tiles =
+    part_cause _ (ltb workspace (4 * (n + m))) 6 (omega arith)
+    (part_cause _ (ltb tiles (3 * (min n m / minimum))) 7 (omega arith) part_end)
+
+-- All that the search checks is a part of what a service checks, without room and with it.
+pub search_part : (first second : List ℕ) (minimum buckets start : ℕ) → Part (search_checks first second minimum buckets start)
+search_part first second minimum buckets start =
+    part_then (λ k. sequences first second (minimums minimum k)) (settings minimum buckets start) (comparable_part first second minimum) (settings_part minimum buckets start)
+
+pub fast_part : (first second : List ℕ) (minimum buckets start workspace tiles : ℕ) → Part (fast_checks first second minimum buckets start workspace tiles)
+fast_part first second minimum buckets start workspace tiles =
+    part_then (search_checks first second minimum buckets start) (room (length first) (length second) minimum workspace tiles)
+    (search_part first second minimum buckets start)
+    (room_part (length first) (length second) minimum workspace tiles)
+
+-- A refusal that the code of a part answered is that of the whole chain, whatever is checked later.
+pub workspace_stopped : (n m workspace : ℕ) (e : Refusal) (later : ℕ) → number e ≡ workspaces n m workspace 0 → number e ≡ workspaces n m workspace later
+workspace_stopped n m workspace e later h = part_stops _ (workspace_part n m workspace) (number e) later h (never_none e)
 
 module _ (first second : List ℕ) (e : Refusal) (later : ℕ) where
   pub sequences_stopped : number e ≡ sequences first second 0 → number e ≡ sequences first second later
-  sequences_stopped = sequences_stop first second e (stopped e later)
+  sequences_stopped h = part_stops _ (sequences_part first second) (number e) later h (never_none e)
 
   pub pair_stopped : (minimum : ℕ) → number e ≡ sequences first second (minimums minimum 0) → number e ≡ sequences first second (minimums minimum later)
-  pair_stopped minimum = sequences_stop first second e (minimums_stop minimum e (stopped e later))
+  pair_stopped minimum h = part_stops _ (comparable_part first second minimum) (number e) later h (never_none e)
 
   pub search_stopped : (minimum buckets start : ℕ) → number e ≡ search_checks first second minimum buckets start 0 → number e ≡ search_checks first second minimum buckets start later
-  search_stopped minimum buckets start =
-      sequences_stop first second e (minimums_stop minimum e (settings_stop minimum buckets start e (stopped e later)))
+  search_stopped minimum buckets start h = part_stops _ (search_part first second minimum buckets start) (number e) later h (never_none e)
 
   pub fast_stopped : (minimum buckets start workspace tiles : ℕ) → number e ≡ fast_refusal first second minimum buckets start workspace tiles → number e ≡ fast_checks first second minimum buckets start workspace tiles later
-  fast_stopped minimum buckets start workspace tiles =
-      sequences_stop first second e
-      (minimums_stop minimum e
-      (settings_stop minimum buckets start e
-      (room_stop (length first) (length second) minimum workspace tiles e (stopped e later))))
+  fast_stopped minimum buckets start workspace tiles h =
+      part_stops _ (fast_part first second minimum buckets start workspace tiles) (number e) later h (never_none e)
