@@ -63,7 +63,7 @@ module _ (es : List ℕ) (at len : ℕ) (r : Ranged es) (some : 1 ≤ len) (with
     pub high : last < next
     high = omega (arith, n, next_above es last)
 
-    inside : next ≤ length es
+    pub inside : next ≤ length es
     inside = omega (arith, n, r.ahead last (omega (arith, l)))
 
     pub ordered : before ≤ next

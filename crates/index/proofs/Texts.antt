@@ -113,7 +113,7 @@ module _ (x : Pass) (ws hs fs : List ℕ) (from to : ℕ) (st : Stretched (state
         r.linked.entries
 
     module _ (ws₂ hs' fs' : List ℕ) (done : Linked x ws' ws₂ hs' fs' from) where
-      texts_state : state j ws₂ ≡ state j ws
+      pub texts_state : state j ws₂ ≡ state j ws
       texts_state = done.same ∙ part_same
 
       -- The windows that reach past the stretch are not free.

@@ -12,6 +12,11 @@ use Rattle.lines.specs.Appended.{Appended}
 pub nothing : (at : ℕ) (b : List ℕ) → at ≤ length b → Appended 0 [] at b at b
 nothing at b h = record { within = h; few = omega arith; next = omega arith; held = sym (take-append-drop at b) }
 
+-- A text copied to the part of a buffer that is as long.
+pub appended : (at n : ℕ) (b part text : List ℕ) → at + length text ≤ length b → n ≡ length text → part ≡ text → Appended (length text) text at b (at + length text) (take at b ++ (part ++ drop n (drop at b)))
+appended at n b part text fits k e =
+    record { within = omega arith; few = omega arith; next = refl; held = rw (e, k) refl }
+
 -- The bytes may be said to be fewer than more.
 pub fewer : {m : ℕ} (n : ℕ) {xs : List ℕ} {at at' : ℕ} {b b' : List ℕ} → m ≤ n → Appended m xs at b at' b' → Appended n xs at b at' b'
 fewer n h a = record { within = a.within; few = omega (arith, a.few); next = a.next; held = a.held }

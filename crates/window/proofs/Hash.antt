@@ -2,10 +2,12 @@
 -- first word's share is the word times a power of B, so it can be taken out again; and since sums and products keep
 -- congruence, each step may wrap.
 -- Assumes nothing.
-use Rattle.std.proofs.Common.{◌≡◌, ℕ, zero, suc, ◌+◌, ◌-◌, ◌*◌, ◌%◌, ◌^◌, ◌<◌, ◌≤◌, List, [], ◌∷◌, ◌++◌, fold, length, get_or, take, sym, refl, ◌∙◌, add_assoc, mul_assoc, add-mul, add_comm, pow-suc, mul-one, add-one, arith, length-append, take_all, take-suc}
+use Rattle.std.proofs.Common.{◌≡◌, ℕ, zero, suc, ◌+◌, ◌-◌, ◌*◌, ◌%◌, ◌^◌, ◌<◌, ◌≤◌, List, [], ◌∷◌, ◌++◌, fold, map, length, get_or, take, sym, refl, ◌∙◌, add_assoc, mul_assoc, add-mul, add_comm, pow-suc, mul-one, add-one, arith, length-append, take_all, take-suc}
 use native.Mathlib.Nat.{pow-zero}
 use Rattle.std.proofs.lemmas.Grind.{fold-append}
-use Rattle.window.specs.Hash.{weigh, words_hash}
+use lib.ListN.{length-map}
+use Rattle.symbol.specs.Word.{replaced}
+use Rattle.window.specs.Hash.{weigh, words_hash, hash}
 use Rattle.window.proofs.Congruence.{Congruent, congruent_refl, congruent_sym, congruent_trans, congruent_mod, congruent_add, congruent_mul, congruent_cancel}
 
 -- ---- one more word
@@ -63,3 +65,14 @@ folded B ws (suc n) h =
 
 pub hashed : (B r : ℕ) (ws : List ℕ) → r ≡ fold (λ h w. (h * B + w) % 2 ^ 32) 0 ws → r ≡ words_hash B ws
 hashed B r ws e = let l : length ws ≤ length ws = omega arith in e ∙ (rw take_all at (folded B ws (length ws) l))
+
+-- ---- a walk along the words of a window: h is the hash of those before i, so at the end it is that of the window; here of replaced words
+pub record Hashed (B : ℕ) (ws : List ℕ) (h i : ℕ) : Type 0 where
+  pub within : i ≤ length ws
+  pub held : h ≡ words_hash B (take i ws)
+
+pub hashed_all : (B : ℕ) (ws : List ℕ) (h i : ℕ) → Hashed B ws h i → length ws ≤ i → h ≡ words_hash B ws
+hashed_all B ws h i inv all = rw (take_all i ws all) at inv.held
+
+pub replaced_hash_lem : (B : ℕ) (ws : List ℕ) (h i : ℕ) → Hashed B (map replaced ws) h i → length ws ≤ i → h ≡ hash B ws
+replaced_hash_lem B ws h i inv all = hashed_all B (map replaced ws) h i inv (rw (length-map ws replaced) all)
