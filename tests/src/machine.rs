@@ -8,6 +8,9 @@ use std::process::Command;
 /// The source of the match.
 const SOURCE: &str = include_str!("../../crates/symbol/src/lib.rt");
 
+/// A source with a function that has a loop.
+const LOOPING: &str = include_str!("../../crates/plain/src/lib.rt");
+
 /// The archive that C and Rust programs link.
 const ARCHIVE: &str = concat!(
     env!("CARGO_MANIFEST_DIR"),
@@ -79,6 +82,9 @@ pub fn source(g: &mut Group) {
     let found = body(SOURCE, "all_sound").map(|body| more_than_arithmetic(body, &[]));
     let found = found.is_some_and(|found| found.contains(&"fold"));
     g.equal(format_args!("all_sound folds"), found, true);
+    let found = body(LOOPING, "row_search").map(|body| more_than_arithmetic(body, &[]));
+    let found = found.is_some_and(|found| found.contains(&"while"));
+    g.equal(format_args!("row_search has a loop"), found, true);
 }
 
 /// The instructions of a function of the archive, by their names, as objdump prints them: a line each, an address, a
