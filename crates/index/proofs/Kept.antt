@@ -69,7 +69,7 @@ filtered_kept x ws ws' filter c f =
 -- Hashes and links are as they were where what stands between the sequences and the bounds is, and what stands between the bounds and the
 -- chains; the pass may be said to be of this comparison.
 module _ (x : Pass) (j : Job) (ws ws' : List ℕ) (same : x.job ≡ j) (shrinks : (p u : ℕ) → run_at (state j ws') p u ≤ run_at (state j ws) p u) (hashes : (a : ℕ) → j.n + j.m ≤ a → a < bounds_from j → get_or ws' a 0 ≡ get_or ws a 0) (links : (a : ℕ) → bounds_from j + j.n ≤ a → a < chains_from j → get_or ws' a 0 ≡ get_or ws a 0) where
-  unmoved : Kept x.job ws ws'
+  pub unmoved : Kept x.job ws ws'
   unmoved =
       subst (λ i. Kept i ws ws') (sym same)
       (record {
