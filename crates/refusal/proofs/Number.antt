@@ -1,29 +1,15 @@
 -- No refusal has the number 0, so what a chain of causes ends in that is refused does not hang on what is checked later.
 -- Assumes nothing.
 use Prim.Native.Nat.{ℕ}
-use native.Mathlib.Omega.{arith}
 use mathlib.Core.Path.{◌≡◌}
 use mathlib.Core.Bool.{Bool, true, false}
 use Rattle.refusal.specs.Refusal.{refuse}
 use Rattle.refusal.specs.Number.{number}
 use Rattle.refusal.specs.declared.Refusal.{Refusal}
-use Rattle.refusal.specs.declared.Refusal.TheVariants.{TooLong, Unsound, Minimum, Buckets, SearchLength, Workspace, Tiles, CutOff, Header, Trailer, Room, Threshold, Fish, Counts}
+use Rattle.refusal.proofs.Causes.{never_none}
 
 pub number_some : (e : Refusal) → number e ≡ 0 → ⊥
-number_some TooLong z = omega arith
-number_some Unsound z = omega arith
-number_some Minimum z = omega arith
-number_some Buckets z = omega arith
-number_some SearchLength z = omega arith
-number_some Workspace z = omega arith
-number_some Tiles z = omega arith
-number_some CutOff z = omega arith
-number_some Header z = omega arith
-number_some Trailer z = omega arith
-number_some Room z = omega arith
-number_some Threshold z = omega arith
-number_some Fish z = omega arith
-number_some Counts z = omega arith
+number_some e = never_none e
 
 -- A refusal that a chain ends in where nothing is checked later, is what it ends in whatever is checked later: link by link, and at its end.
 pub stops : (e : Refusal) (t : Bool) (n : ℕ) {x y : ℕ} → (number e ≡ x → number e ≡ y) → number e ≡ refuse t n x → number e ≡ refuse t n y
