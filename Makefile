@@ -27,7 +27,7 @@ proving() {
 	say=$$PWD/target/log/$$1.say
 	built=$$PWD/target/log/$$1.built
 	if [ ! -e crates/symbol/out ]; then
-		echo "Everything is proved before it is built, crate by crate. The first time this takes some eight minutes."
+		echo "Everything is proved before it is built, crate by crate. The first time this takes some eight to ten minutes."
 	fi
 	cd "crates/$$1"
 	rt check 2>&1 | tee "$$say" | sed --unbuffered -nE 's/^rt: chose .* for ([a-z0-9_]+)$$/\1/p' || { cat "$$say"; exit 1; }
